@@ -5,3 +5,4 @@ pub mod PackedFacts
 pub mod TableFacts
 pub mod AllOfFacts
 pub mod TwoOfFacts
+pub mod StripFacts

@@ -5,4 +5,5 @@ pub mod Laws
 pub mod Meaning
 pub mod PackedRows
 pub mod Refusals
+pub mod Strips
 pub mod TwoOf

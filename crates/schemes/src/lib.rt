@@ -1,5 +1,5 @@
 // Schemes of visual secret sharing: sets of keyholders, the interface `Scheme` with its laws, the schemes all of n and two
-// of n, and rows of bits packed into bytes.
+// of n, rows of bits packed into bytes, and the sizes of strips.
 
 mod all_of;
 mod bits;
@@ -9,6 +9,7 @@ mod levels;
 mod packed_rows;
 mod refusals;
 mod scheme;
+mod strips;
 mod two_of;
 
 pub use all_of::AllOf;
@@ -39,5 +40,9 @@ pub use refusals::SchemeRefusalEq;
 pub use refusals::SchemeRefusalPartialEq;
 pub use scheme::MOST_COLUMNS;
 pub use scheme::Scheme;
+pub use strips::MOST_PIXELS;
+pub use strips::MOST_SQUARES;
+pub use strips::strip_size;
+pub use strips::strip_squares;
 pub use two_of::TwoOf;
 pub use two_of::TwoOfScheme;
