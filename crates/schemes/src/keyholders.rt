@@ -6,6 +6,7 @@ ghost use lib.Dec.{ltb};
 ghost use Rattle.std.specs.Orderings.{Decides};
 ghost use Rattle.schemes.specs.Keyholders.{most-keyholders, member, Within, Empty, size, everyone};
 use crate::bits::has_bit;
+use std::fmt;
 
 // A set names keyholders 1 to 8.
 pub const MOST_KEYHOLDERS: u8 = 8;
@@ -77,5 +78,23 @@ impl KeyholderSet {
         ensures { λ r. ⌜ r ≡ ltb (self .bits) (2 ^ n) ⌝ }
     {
         self.bits <= KeyholderSet::everyone(n).bits
+    }
+}
+
+// A set is written as its members in braces, {1,3}.
+pub impl fmt::Display for KeyholderSet as KeyholderSetDisplay {
+    fn fmt<W: fmt::Write>(&self, f: &mut fmt::Formatter<W>) -> fmt::Result {
+        write!(f, "{{")?;
+        let mut some = false;
+        for keyholder in 1..=MOST_KEYHOLDERS {
+            if self.has(keyholder) {
+                if some {
+                    write!(f, ",")?;
+                }
+                write!(f, "{keyholder}")?;
+                some = true;
+            }
+        }
+        write!(f, "}}")
     }
 }

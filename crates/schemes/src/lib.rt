@@ -20,6 +20,7 @@ pub use colour::ColourEq;
 pub use colour::ColourPartialEq;
 pub use keyholders::KeyholderSet;
 pub use keyholders::KeyholderSetDebug;
+pub use keyholders::KeyholderSetDisplay;
 pub use keyholders::KeyholderSetEq;
 pub use keyholders::KeyholderSetOrd;
 pub use keyholders::KeyholderSetPartialEq;
