@@ -198,15 +198,9 @@ module _ (n : ℕ) (c : Colour) (i j : ℕ) (p : 1 ≤ i) (q : i ≤ n) (l : j <
   cell-bit h =
       sym (cell-at n (2 ^ (n - 1)) (row (n - 1) c) i j p q l ∙ row-bit (n - 1) c (i - 1) j (omega arith))
 
-  cell-last : n ≤ i → last-row (n - 1) c j ≡ all-of n .cell c i j
+  pub cell-last : n ≤ i → last-row (n - 1) c j ≡ all-of n .cell c i j
   cell-last h =
       sym (cell-at n (2 ^ (n - 1)) (row (n - 1) c) i j p q l ∙ row-last (n - 1) c (i - 1) j (omega arith))
 
-  odd : eqb (ones j % 2) 1 ≡ parity (n - 1) j
-  odd = sym (parity-counted (n - 1) j ∙ ap (λ (x : ℕ). eqb (x % 2) 1) (sym (ones-counted (n - 1) j l)))
-
-  pub cell-white : n ≤ i → c ≡ White → eqb (ones j % 2) 1 ≡ all-of n .cell c i j
-  cell-white h e = odd ∙ sym (ap (λ (x : Colour). last-row (n - 1) x j) e) ∙ cell-last h
-
-  pub cell-black : n ≤ i → c ≡ Black → not (eqb (ones j % 2) 1) ≡ all-of n .cell c i j
-  cell-black h e = ap not odd ∙ sym (ap (λ (x : Colour). last-row (n - 1) x j) e) ∙ cell-last h
+pub odd-ones : (r j : ℕ) → j < 2 ^ r → eqb (ones j % 2) 1 ≡ parity r j
+odd-ones r j l = sym (parity-counted r j ∙ ap (λ (x : ℕ). eqb (x % 2) 1) (sym (ones-counted r j l)))

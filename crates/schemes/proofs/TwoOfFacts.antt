@@ -110,7 +110,6 @@ alone n set i k p q b d l = elim (cases-order k i) [
 
 -- the white stack has column 0 at most, and the black one a column for each member
 whites-few : (n set : ℕ) → count-below n (row-stack n (row White) set) ≤ 1
-unfolding row
 whites-few n set =
     let h : count-below n (row-stack n (row White) set) ≤ count-below n (λ j. eqb j 0)
     = count-more n (row-stack n (row White) set) (λ j. eqb j 0)
@@ -118,7 +117,6 @@ whites-few n set =
     omega (arith, h, first-only n)
 
 black-at : (n set j : ℕ) → j < n → (x : Bool) → bit set j ≡ x → row-stack n (row Black) set j ≡ bit set j
-unfolding row
 black-at n set j l true w = any-true n (λ k. bit set k && eqb j k) j l (and-from (bit set j) (eqb j j) w (eq-eqb j j refl)) ∙ sym w
 black-at n set j l false w =
     any-false n (λ k. bit set k && eqb j k)
@@ -131,7 +129,7 @@ blacks-many : (n set : ℕ) → count-below n (row-stack n (row Black) set) ≡ 
 blacks-many n set = count-same n (row-stack n (row Black) set) (bit set) (λ j l. black-at n set j l (bit set j) refl)
 
 rows : (n : ℕ) → 2 ≤ n → LawfulRows n n row (λ set. leb 2 (members-among n set))
-unfolding row swapping staying
+unfolding swapping staying
 rows n l =
     record {
       all-qualify = rw (count-all n (bit (2 ^ n - 1)) (λ k b. bit-full n k b)) (le-leb 2 n l);
@@ -162,14 +160,8 @@ two-of-in-range n p q = tabled-in-range n n row (test n) (omega arith) q (omega 
 
 -- ---- the cells, as the code has them
 
-module _ (n : ℕ) (c : Colour) (i j : ℕ) (p : 1 ≤ i) (q : i ≤ n) (l : j < n) where
-  pub cell-white : c ≡ White → eqb j 0 ≡ two-of n .cell c i j
-  unfolding row
-  cell-white e = sym (cell-at n n (row c) i j p q l ∙ ap (λ (x : Colour). row x (i - 1) j) e)
-
-  pub cell-black : c ≡ Black → eqb j (i - 1) ≡ two-of n .cell c i j
-  unfolding row
-  cell-black e = sym (cell-at n n (row c) i j p q l ∙ ap (λ (x : Colour). row x (i - 1) j) e)
+pub cell-row : (n : ℕ) (c : Colour) (i j : ℕ) → 1 ≤ i → i ≤ n → j < n → row c (i - 1) j ≡ two-of n .cell c i j
+cell-row n c i j p q l = sym (cell-at n n (row c) i j p q l)
 
 -- ---- the levels
 
@@ -178,7 +170,6 @@ two-members : (n set : ℕ) → two-of n .qualified set ≡ true → 2 ≤ membe
 two-members n set e = leb-true 2 (members-among n set) (and-parts (ltb set (2 ^ n)) (test n set) e .1)
 
 white-at-0 : (n set : ℕ) → 1 ≤ members-among n set → row-stack n (row White) set 0 ≡ true
-unfolding row
 white-at-0 n set h = go (look n (bit set))
   where
     go : ((k : ℕ) × (k < n) × (bit set k ≡ true)) ⊎ ((k : ℕ) → k < n → bit set k ≡ false) → row-stack n (row White) set 0 ≡ true

@@ -10,7 +10,7 @@ use Rattle.schemes.specs.declared.colour.Colour.{Colour}
 use Rattle.schemes.specs.declared.colour.Colour.the-variants.{White, Black}
 
 -- Row k, that of keyholder k + 1.
-unfoldable pub row : (colour : Colour) (k column : ℕ) → Bool
+abbrev pub row : (colour : Colour) (k column : ℕ) → Bool
 row White k j = eqb j 0
 row Black k j = eqb j k
 

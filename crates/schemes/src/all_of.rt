@@ -1,9 +1,10 @@
 // All of n: only all keyholders together read the secret.
 ghost use mathlib.Core.Path.{_≡_};
-ghost use Prim.Native.Nat.{_≤_};
+ghost use Prim.Native.Nat.{_≤_, _<_, _^_};
 ghost use Rattle.std.specs.Vec.{made};
+ghost use Rattle.schemes.specs.Bits.{parity};
 ghost use Rattle.schemes.specs.Keyholders.{most-keyholders};
-ghost use Rattle.schemes.specs.AllOf.{all-of, LevelsOfAll};
+ghost use Rattle.schemes.specs.AllOf.{last-row, all-of, LevelsOfAll};
 ghost use Rattle.schemes.specs.Refusals.{refusal-in, keyholders-from};
 use crate::Colour;
 use crate::KeyholderSet;
@@ -11,6 +12,25 @@ use crate::MOST_KEYHOLDERS;
 use crate::Scheme;
 use crate::SchemeRefusal;
 use crate::bits::has_bit;
+
+// Whether an odd number of a column's bits is set.
+fn is_odd(column: u8, width: u8) -> bool
+    requires { ⌜ column < 2 ^ width ⌝ }
+    ensures { λ r. ⌜ r ≡ parity width column ⌝ }
+{
+    column.count_ones() % 2 == 1
+}
+
+// The cell of the last keyholder, at a column of so many bits.
+fn last_cell(width: u8, colour: Colour, column: u8) -> bool
+    requires { ⌜ column < 2 ^ width ⌝ }
+    ensures { λ r. ⌜ r ≡ last-row width colour column ⌝ }
+{
+    match colour {
+        Colour::White => is_odd(column, width),
+        Colour::Black => !is_odd(column, width),
+    }
+}
 
 // The scheme in which only the set of all n keyholders is qualified (Naor and Shamir, k out of k).
 #[derive(Clone, Copy)]
@@ -52,11 +72,7 @@ pub impl Scheme for AllOf as AllOfScheme {
         if keyholder < self.n {
             return has_bit(column, keyholder - 1);
         }
-        let odd = column.count_ones() % 2 == 1;
-        match colour {
-            Colour::White => odd,
-            Colour::Black => !odd,
-        }
+        last_cell(self.n - 1, colour, column)
     }
 
     fn qualified(&self, set: KeyholderSet) -> bool {

@@ -46,39 +46,71 @@ impl KeyholderSet {
     pub fn has(self, keyholder: u8) -> bool
         ensures { λ r. ⌜ r ≡ member (self .bits) keyholder ⌝ }
     {
-        if keyholder < 1 || keyholder > MOST_KEYHOLDERS {
-            return false;
-        }
-        has_bit(self.bits, keyholder - 1)
+        is_member(self.bits, keyholder)
     }
 
     // Whether every member of the other set is a member of this one.
     pub fn contains(self, other: KeyholderSet) -> bool
         ensures { λ r. ⌜ Decides r (Within (other .bits) (self .bits)) ⌝ }
     {
-        other.bits & self.bits == other.bits
+        are_within(other.bits, self.bits)
     }
 
     // Whether the set has no member.
     pub fn is_empty(self) -> bool
         ensures { λ r. ⌜ Decides r (Empty (self .bits)) ⌝ }
     {
-        self.bits == 0
+        are_none(self.bits)
     }
 
     // How many members the set has.
     pub fn len(self) -> u8
         ensures { λ r. ⌜ r ≡ size (self .bits) ⌝ }
     {
-        self.bits.count_ones() as u8
+        count_members(self.bits)
     }
 
     // Whether no member is above n.
     pub fn is_among(self, n: u8) -> bool
         ensures { λ r. ⌜ r ≡ ltb (self .bits) (2 ^ n) ⌝ }
     {
-        self.bits <= KeyholderSet::everyone(n).bits
+        are_among(self.bits, n)
     }
+}
+
+// ---- the same of the number of a set
+
+fn is_member(bits: u8, keyholder: u8) -> bool
+    ensures { λ r. ⌜ r ≡ member bits keyholder ⌝ }
+{
+    if keyholder < 1 || keyholder > MOST_KEYHOLDERS {
+        return false;
+    }
+    has_bit(bits, keyholder - 1)
+}
+
+fn are_within(a: u8, b: u8) -> bool
+    ensures { λ r. ⌜ Decides r (Within a b) ⌝ }
+{
+    a & b == a
+}
+
+fn are_none(bits: u8) -> bool
+    ensures { λ r. ⌜ Decides r (Empty bits) ⌝ }
+{
+    bits == 0
+}
+
+fn count_members(bits: u8) -> u8
+    ensures { λ r. ⌜ r ≡ size bits ⌝ }
+{
+    bits.count_ones() as u8
+}
+
+fn are_among(bits: u8, n: u8) -> bool
+    ensures { λ r. ⌜ r ≡ ltb bits (2 ^ n) ⌝ }
+{
+    bits <= KeyholderSet::everyone(n).bits
 }
 
 // A set is written as its members in braces, {1,3}.

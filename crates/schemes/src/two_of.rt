@@ -1,15 +1,33 @@
 // Two of n: any two keyholders read the secret together.
 ghost use mathlib.Core.Path.{_≡_};
-ghost use Prim.Native.Nat.{_≤_};
+ghost use Prim.Native.Nat.{_≤_, _<_, _^_};
 ghost use Rattle.std.specs.Vec.{made};
-ghost use Rattle.schemes.specs.Keyholders.{most-keyholders};
-ghost use Rattle.schemes.specs.TwoOf.{two-of, LevelsOfTwo};
+ghost use Rattle.schemes.specs.Keyholders.{most-keyholders, members-among};
+ghost use Rattle.schemes.specs.TwoOf.{row, two-of, LevelsOfTwo};
 ghost use Rattle.schemes.specs.Refusals.{refusal-in, keyholders-from};
 use crate::Colour;
 use crate::KeyholderSet;
 use crate::MOST_KEYHOLDERS;
 use crate::Scheme;
 use crate::SchemeRefusal;
+
+// The cell of row k, that of keyholder k + 1.
+fn row_cell(colour: Colour, k: u8, column: u8) -> bool
+    ensures { λ r. ⌜ r ≡ row colour k column ⌝ }
+{
+    match colour {
+        Colour::White => column == 0,
+        Colour::Black => column == k,
+    }
+}
+
+// How many members a set of keyholders 1 to n has.
+fn count_among(n: u8, set: KeyholderSet) -> u8
+    requires { ⌜ n ≤ most-keyholders ⌝ ∗ ⌜ set .bits < 2 ^ n ⌝ }
+    ensures { λ r. ⌜ r ≡ members-among n (set .bits) ⌝ }
+{
+    set.len()
+}
 
 // The scheme in which the sets of two and more of n keyholders are qualified.
 #[derive(Clone, Copy)]
@@ -48,13 +66,10 @@ pub impl Scheme for TwoOf as TwoOfScheme {
         if keyholder < 1 || keyholder > self.n || column >= self.n {
             return false;
         }
-        match colour {
-            Colour::White => column == 0,
-            Colour::Black => column == keyholder - 1,
-        }
+        row_cell(colour, keyholder - 1, column)
     }
 
     fn qualified(&self, set: KeyholderSet) -> bool {
-        set.is_among(self.n) && set.len() >= 2
+        set.is_among(self.n) && count_among(self.n, set) >= 2
     }
 }

@@ -36,12 +36,12 @@ fn run(rt: &LibcRuntime) -> Result<(), Failure> {
     let _program = args.next();
     let words: Vec<String> = args.collect(rt.alloc())?;
     let Some(command) = words.first() else {
-        print!(rt, "{}", usage::TEXT)?;
+        println!(rt, "{}", usage::TEXT)?;
         return Ok(());
     };
     match command.as_str() {
         "help" => {
-            print!(rt, "{}", usage::TEXT)?;
+            println!(rt, "{}", usage::TEXT)?;
             Ok(())
         }
         "scheme" => show_scheme(rt, &words[1..]),

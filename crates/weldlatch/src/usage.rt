@@ -6,5 +6,4 @@ pub const TEXT: &str = "usage: weldlatch COMMAND
   weldlatch scheme two N    prints the scheme of any two of N keyholders
   weldlatch help            prints this
 
-A refusal goes to standard error with its number, and the status is 1.
-";
+A refusal goes to standard error with its number, and the status is 1.";

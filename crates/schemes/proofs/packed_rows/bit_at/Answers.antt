@@ -7,4 +7,4 @@ pub returns-then-k-row : need.returns-then-k-row
 returns-then-k-row c = sym (bit-at-past (c .args .row .now) (c .args .k) (omega arith))
 
 pub returns : need.returns
-returns c = c .has-bit .ensures ∙ bit-at-is (c .args .row .now) (c .args .k)
+returns c = c .read-bit .ensures ∙ bit-at-is (c .args .row .now) (c .args .k)
