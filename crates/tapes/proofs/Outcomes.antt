@@ -7,13 +7,13 @@ use Prim.Native.Nat.{ℕ, _≤_, _<_}
 use native.Mathlib.Omega.{arith}
 use lib.Dec.{eqb, leb}
 use lib.ListN.{length, replicate}
-use Rattle.std.specs.Options.{Cases, isSome}
+use Rattle.std.specs.Options.{isSome}
 use Rattle.std.specs.declared.option.Option.{Option}
 use Rattle.std.specs.declared.option.Option.the-variants.{Some, None}
 use Rattle.std.proofs.shelf.Counted.{length-counting}
 use Rattle.std.proofs.shelf.Tests.{le-leb, lt-leb, and-from, and-left, and-right, cond-true, cond-false}
 use Rattle.std.proofs.shelf.Ways.{tells}
-use Rattle.tapes.specs.Drawing.{Drawn, short, drawn}
+use Rattle.tapes.specs.Drawing.{Drawn, short, drawn, Drawn-in-place}
 use Rattle.tapes.specs.Orders.{columns, arranging, order}
 use Rattle.tapes.specs.Blocks.{Outcome, is-block, untouched, ordered, outcome}
 
@@ -34,13 +34,13 @@ arranging-columns m start tape e =
     let size : length start ≡ m = ap length e ∙ length-counting 0 m in
     ap (λ k. arranging k start tape) size ∙ ap (λ l. arranging m l tape) e
 
--- The two ways of an answer.
-module _ {A : Type 0} (P Q : Type 0) where
-  pub when-some : (r : Option A) → isSome r ≡ true → Cases r P (λ _. Q) → Q
+-- The two ways of a call that draws in place.
+module _ {A : Type 0} (drawing : Drawn A) (held : A) (rest : List ℕ) where
+  pub when-some : (r : Option (Unit {0})) → isSome r ≡ true → Drawn-in-place drawing r held rest → drawing ≡ drawn held rest
   when-some None e h = let z : _≡_ {A = ℕ} 0 1 = cc in absurd (omega arith)
   when-some (Some _) e h = h
 
-  pub when-none : (r : Option A) → isSome r ≡ false → Cases r P (λ _. Q) → P
+  pub when-none : (r : Option (Unit {0})) → isSome r ≡ false → Drawn-in-place drawing r held rest → (drawing ≡ short) × (rest ≡ [])
   when-none None e h = h
   when-none (Some _) e h = let z : _≡_ {A = ℕ} 0 1 = cc in absurd (omega arith)
 

@@ -1,4 +1,5 @@
 -- What it means to draw from a tape. A tape is the list of the bytes that still wait.
+use mathlib.Core.Path.{_≡_}
 use mathlib.Core.List.{List, []}
 use Prim.Native.Nat.{ℕ}
 use Rattle.std.specs.declared.option.Option.{Option}
@@ -27,3 +28,8 @@ value-of (drawn a rest) = Some a
 abbrev pub rest-of : {A : Type 0} → Drawn A → List ℕ
 rest-of short = []
 rest-of (drawn a rest) = rest
+
+-- A call that draws in place: it answers whether it drew, what it drew is held, and these bytes wait after it.
+abbrev pub Drawn-in-place : {A : Type 0} → Drawn A → (answer : Option (Unit {0})) (held : A) (waiting : List ℕ) → Type 0
+Drawn-in-place drawing None held waiting = (drawing ≡ short) × (waiting ≡ [])
+Drawn-in-place drawing (Some _) held waiting = drawing ≡ drawn held waiting

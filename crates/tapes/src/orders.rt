@@ -1,13 +1,12 @@
 // The column orders of blocks, drawn digit by digit.
 ghost use mathlib.Core.Path.{_≡_};
 ghost use mathlib.Core.Bool.{cond};
-ghost use mathlib.Core.List.{_∷_, _++_, []};
+ghost use mathlib.Core.List.{_∷_, _++_};
 ghost use Prim.Native.Nat.{_+_, _<_, _≤_};
 ghost use lib.ListN.{length, getD, take, drop};
-ghost use Rattle.std.specs.Options.{Cases};
 ghost use Rattle.std.specs.declared.option.Option.the-variants.{Some};
 ghost use Rattle.std.specs.shelf.Lists.{removed};
-ghost use Rattle.tapes.specs.Drawing.{short, drawn};
+ghost use Rattle.tapes.specs.Drawing.{Drawn-in-place};
 ghost use Rattle.tapes.specs.Orders.{columns, arranging};
 ghost use Rattle.tapes.specs.Permutations.{Permutation, One-to-one};
 ghost use Rattle.tapes.specs.Blocks.{outcome};
@@ -56,9 +55,9 @@ fn take_column(order: &mut [u8], taken: usize, place: usize)
 
 // Arranges the columns by digits drawn from the tape.
 fn arrange<T: Tape>(tape: &mut T, order: &mut [u8]) -> Option<()>
-    requires some { ⌜ 1 ≤ length (now order) ⌝ }
+    requires least { ⌜ 1 ≤ length (now order) ⌝ }
     requires most { ⌜ length (now order) ≤ 128 ⌝ }
-    ensures { λ r. ⌜ Cases r ((arranging (length (now (order .entry))) (now (order .entry)) (bytes (now (tape .entry))) ≡ short) × (bytes (now (tape .exit)) ≡ [])) (λ _. arranging (length (now (order .entry))) (now (order .entry)) (bytes (now (tape .entry))) ≡ drawn (now (order .exit)) (bytes (now (tape .exit)))) ⌝ }
+    ensures { λ r. ⌜ Drawn-in-place (arranging (length (now (order .entry))) (now (order .entry)) (bytes (now (tape .entry)))) r (now (order .exit)) (bytes (now (tape .exit))) ⌝ }
 {
     for taken in 0..order.len() - 1 {
         let base = Base::known((order.len() - taken) as u8);

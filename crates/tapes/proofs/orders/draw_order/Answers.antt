@@ -1,5 +1,4 @@
 use mathlib.Core.Path.{_≡_, sym, ap, _∙_}
-use mathlib.Core.List.{[]}
 use mathlib.Core.Logic.{_⊎_, inl, inr}
 use Prim.Native.Nat.{ℕ, _≤_, _<_}
 use native.Mathlib.Omega.{arith}
@@ -38,7 +37,7 @@ returns-then-is-none g c =
     let rest = g .T·Tape .bytes (c .arrange .last .tape) in
     let start = c .number-columns .last .order in
     let drawing = arranging (length start) start tape in
-    let end = when-none ((drawing ≡ short) × (rest ≡ [])) (drawing ≡ drawn (c .arrange .last .order) rest) (c .arrange .result) (c .if-is-none .ensures tt) (c .arrange .ensures) in
+    let end = when-none drawing (c .arrange .last .order) rest (c .arrange .result) (c .if-is-none .ensures tt) (c .arrange .ensures) in
     let runs-short : order m tape ≡ short = sym (arranging-columns m start tape (c .number-columns .ensures)) ∙ end .0 in
     let some : 1 ≤ m = not-empty m (sym (c .is-empty .ensures) ∙ c .if-is-empty .left) in
     let is : outcome slice tape ≡ ordered m short = outcome-ordered slice tape some (omega arith) ∙ ap (ordered m) runs-short in
@@ -60,7 +59,7 @@ returns g c =
     let m = length slice in
     let start = c .number-columns .last .order in
     let drawing = arranging (length start) start tape in
-    let end = when-some ((drawing ≡ short) × (rest ≡ [])) (drawing ≡ drawn (c .arrange .last .order) rest) (c .arrange .result) (c .if-is-none .ensures tt) (c .arrange .ensures) in
+    let end = when-some drawing (c .arrange .last .order) rest (c .arrange .result) (c .if-is-none .ensures tt) (c .arrange .ensures) in
     let draws : order m tape ≡ drawn (c .arrange .last .order) rest = sym (arranging-columns m start tape (c .number-columns .ensures)) ∙ end in
     let some : 1 ≤ m = not-empty m (sym (c .is-empty .ensures) ∙ c .if-is-empty .left) in
     let is : outcome slice tape ≡ ordered m (drawn (c .arrange .last .order) rest) = outcome-ordered slice tape some (omega arith) ∙ ap (ordered m) draws in
