@@ -1,19 +1,18 @@
 -- The lists of digits that are drawn, and that every one of them can be drawn. For the clause `bijection` of `draw_order`.
-use mathlib.Core.Path.{_≡_, refl, sym, ap, ap₂, _∙_}
-use mathlib.Core.Bool.{true, cond}
+use mathlib.Core.Path.{_≡_, refl, ap, _∙_}
 use mathlib.Core.List.{List, [], _∷_}
-use Prim.Native.Nat.{ℕ, zero, suc, _-_, _%_, _≤_, _<_}
+use Prim.Native.Nat.{ℕ, zero, suc, _-_, _≤_, _<_}
 use native.Mathlib.Omega.{arith}
 use native.Mathlib.Nat.{mod-eq-of-lt}
 use lib.Dec.{ltb}
-use lib.ListN.{length, getD}
-use Rattle.std.proofs.shelf.Lists.{nil-from-length}
+use lib.ListN.{getD}
 use Rattle.std.proofs.shelf.Tests.{lt-ltb, cond-true}
 use Rattle.std.proofs.shelf.Bits.{mod-below}
-use Rattle.tapes.specs.Drawing.{Drawn, short, drawn, Draw, onward}
+use Rattle.tapes.specs.Drawing.{drawn, onward}
 use Rattle.tapes.specs.Digits.{bound, digit}
 use Rattle.tapes.specs.Orders.{digits}
 use Rattle.tapes.specs.Permutations.{Digit-list}
+use Rattle.tapes.proofs.Drawing.{both-drawn}
 use Rattle.tapes.proofs.Arrangements.{Falling}
 use Rattle.tapes.proofs.Spellings.{digit-below}
 
@@ -39,12 +38,6 @@ digit-list m (d ∷ ds) h = record {
     go : ((i : ℕ) → i < m - 1 - 1 → getD ds i 0 < m - 1 - i) → (k : ℕ) → k < m - 1 → getD (d ∷ ds) k 0 < m - k
     go later zero l = omega (arith, h .1)
     go later (suc k) l = omega (arith, later k (omega arith))
-
--- What was drawn in two steps was drawn in the first and then in the second.
-pub both-drawn : {A B : Type 0} (first : Drawn A) (next : A → Draw B) (b : B) (rest : List ℕ) → onward first next ≡ drawn b rest →
-    (a : A) × (between : List ℕ) × (first ≡ drawn a between) × (next a between ≡ drawn b rest)
-both-drawn short next b rest e = let z : _≡_ {A = ℕ} 0 1 = cc in absurd (omega arith)
-both-drawn (drawn a between) next b rest e = (a, between, refl, e)
 
 pub digits-falling : (m : ℕ) (tape ds rest : List ℕ) → digits m tape ≡ drawn ds rest → Falling m ds
 digits-falling zero tape ds rest e = let none : ds ≡ [] = cc in rw none (omega arith)

@@ -1,3 +1,4 @@
+pub mod Drawing
 pub mod Counts
 pub mod Runs
 pub mod Spellings

@@ -1,13 +1,12 @@
 -- The three outcomes of drawing an order into a slice: for `draw_order`, and for those who call it.
-use mathlib.Core.Path.{_≡_, refl, sym, ap, _∙_}
-use mathlib.Core.Bool.{Bool, true, false, cond, _&&_}
-use mathlib.Core.List.{List, []}
+use mathlib.Core.Path.{_≡_, refl, ap, _∙_}
+use mathlib.Core.Bool.{false}
+use mathlib.Core.List.{List}
 use mathlib.Core.Logic.{_⊎_, inl, inr}
 use Prim.Native.Nat.{ℕ, _≤_, _<_}
 use native.Mathlib.Omega.{arith}
 use lib.Dec.{eqb, leb}
 use lib.ListN.{length, replicate}
-use Rattle.std.specs.Options.{isSome}
 use Rattle.std.specs.declared.option.Option.{Option}
 use Rattle.std.specs.declared.option.Option.the-variants.{Some, None}
 use Rattle.std.proofs.shelf.Counted.{length-counting}
@@ -15,7 +14,7 @@ use Rattle.std.proofs.shelf.Tests.{le-leb, lt-leb, and-from, and-left, and-righ
 use Rattle.std.proofs.shelf.Ways.{tells}
 use Rattle.tapes.specs.Drawing.{Drawn, short, drawn, Drawn-in-place}
 use Rattle.tapes.specs.Orders.{columns, arranging, order}
-use Rattle.tapes.specs.Blocks.{Outcome, is-block, untouched, ordered, outcome}
+use Rattle.tapes.specs.Blocks.{is-block, untouched, ordered, outcome}
 
 pub not-empty : (n : ℕ) → eqb n 0 ≡ false → 1 ≤ n
 not-empty n e = grind (arith, tells)
@@ -34,24 +33,27 @@ arranging-columns m start tape e =
     let size : length start ≡ m = ap length e ∙ length-counting 0 m in
     ap (λ k. arranging k start tape) size ∙ ap (λ l. arranging m l tape) e
 
--- The two ways of a call that draws in place.
-module _ {A : Type 0} (drawing : Drawn A) (held : A) (rest : List ℕ) where
-  pub when-some : (r : Option (Unit {0})) → isSome r ≡ true → Drawn-in-place drawing r held rest → drawing ≡ drawn held rest
-  when-some None e h = let z : _≡_ {A = ℕ} 0 1 = cc in absurd (omega arith)
-  when-some (Some _) e h = h
+-- What a caller with a block learns of the order, and of the slice at the tape's end.
+module _ (m : ℕ) (held rest : List ℕ) where
+  ordered-in-place : (drawing : Drawn (List ℕ)) (r : Option (Unit {0})) → r ≡ ordered m drawing .answer → held ≡ ordered m drawing .slice →
+      rest ≡ ordered m drawing .waiting → Drawn-in-place drawing r held rest
+  ordered-in-place short None answer holds left = (refl, left)
+  ordered-in-place short (Some _) answer holds left = let z : _≡_ {A = ℕ} 0 1 = cc in absurd (omega arith)
+  ordered-in-place (drawn o left′) None answer holds left = let z : _≡_ {A = ℕ} 0 1 = cc in absurd (omega arith)
+  ordered-in-place (drawn o left′) (Some _) answer holds left = cc
 
-  pub when-none : (r : Option (Unit {0})) → isSome r ≡ false → Drawn-in-place drawing r held rest → (drawing ≡ short) × (rest ≡ [])
-  when-none None e h = h
-  when-none (Some _) e h = let z : _≡_ {A = ℕ} 0 1 = cc in absurd (omega arith)
+  ordered-wiped : (drawing : Drawn (List ℕ)) → None ≡ ordered m drawing .answer → held ≡ ordered m drawing .slice → held ≡ replicate m 0
+  ordered-wiped short answer holds = holds
+  ordered-wiped (drawn o left′) answer holds = let z : _≡_ {A = ℕ} 0 1 = cc in absurd (omega arith)
 
--- What a caller with a block learns of the order from the answer.
-module _ (m : ℕ) (tape slice rest : List ℕ) where
-  pub drawn-order : (drawing : Drawn (List ℕ)) → Some tt ≡ ordered m drawing .answer → slice ≡ ordered m drawing .slice → rest ≡ ordered m drawing .waiting →
-      drawing ≡ drawn slice rest
-  drawn-order short answer held left = let z : _≡_ {A = ℕ} 0 1 = cc in absurd (omega arith)
-  drawn-order (drawn o left′) answer held left = cc
+module _ (slice tape : List ℕ) (least : 1 ≤ length slice) (most : length slice ≤ 128) (held rest : List ℕ) where
+  pub block-drawn : (r : Option (Unit {0})) → r ≡ outcome slice tape .answer → held ≡ outcome slice tape .slice → rest ≡ outcome slice tape .waiting →
+      Drawn-in-place (order (length slice) tape) r held rest
+  block-drawn r answer holds left =
+      let is = outcome-ordered slice tape least most in
+      ordered-in-place (length slice) held rest (order (length slice) tape) r (rw is at answer) (rw is at holds) (rw is at left)
 
-  pub short-order : (drawing : Drawn (List ℕ)) → None ≡ ordered m drawing .answer → slice ≡ ordered m drawing .slice → rest ≡ ordered m drawing .waiting →
-      (drawing ≡ short) × (slice ≡ replicate m 0) × (rest ≡ [])
-  short-order short answer held left = (refl, held, left)
-  short-order (drawn o left′) answer held left = let z : _≡_ {A = ℕ} 0 1 = cc in absurd (omega arith)
+  pub block-wiped : None ≡ outcome slice tape .answer → held ≡ outcome slice tape .slice → held ≡ replicate (length slice) 0
+  block-wiped answer holds =
+      let is = outcome-ordered slice tape least most in
+      ordered-wiped (length slice) held rest (order (length slice) tape) (rw is at answer) (rw is at holds)

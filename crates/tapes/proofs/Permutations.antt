@@ -1,26 +1,26 @@
 -- Lists of digits and permutations of the columns are in bijection: the clauses `permutation` and `bijection` of `draw_order`.
 use mathlib.Core.Path.{_≡_, refl, sym, ap, subst, _∙_}
-use mathlib.Core.Bool.{Bool, cond}
+use mathlib.Core.Bool.{cond}
 use mathlib.Core.Logic.{inl, inr}
 use mathlib.Core.List.{List, [], _∷_}
 use Prim.Native.Nat.{ℕ, zero, suc, _+_, _≤_, _<_}
 use native.Mathlib.Omega.{arith}
 use native.Mathlib.Numerals.{add-one}
 use lib.Dec.{eqb, ltb}
-use lib.ListN.{length, getD}
-use Rattle.std.specs.Iters.{counting}
+use lib.ListN.{length}
 use Rattle.std.specs.shelf.Lists.{All, countBy}
 use Rattle.std.proofs.shelf.Counted.{length-counting, getD-counting}
-use Rattle.std.proofs.shelf.Elements.{all-getD, all-from-getD}
+use Rattle.std.proofs.shelf.Elements.{all-from-getD}
 use Rattle.std.proofs.shelf.Tests.{lt-ltb, le-ltb, cases-lt}
 use Rattle.std.proofs.shelf.Ways.{tells}
-use Rattle.tapes.specs.Drawing.{drawn, onward}
+use Rattle.tapes.specs.Drawing.{drawn}
 use Rattle.tapes.specs.Orders.{digits, columns, arranged, order}
-use Rattle.tapes.specs.Permutations.{Permutation, Digit-list, One-to-one}
+use Rattle.tapes.specs.Permutations.{Permutation, One-to-one}
+use Rattle.tapes.proofs.Drawing.{both-drawn}
 use Rattle.tapes.proofs.Counts.{countBy-counting-more}
 use Rattle.tapes.proofs.Removals.{countBy-cons, Distinct}
 use Rattle.tapes.proofs.Arrangements.{Arranged, arranged-by, arranged-apart, arranged-reached, Falling}
-use Rattle.tapes.proofs.DigitLists.{falling, digit-list, both-drawn, digits-falling, digits-themselves}
+use Rattle.tapes.proofs.DigitLists.{falling, digit-list, digits-falling, digits-themselves}
 
 -- How often a number stands among the columns.
 one-more : (j m a : ℕ) → a ≡ cond (ltb j m) 1 0 → a + cond (eqb m j) 1 0 ≡ cond (ltb j (suc m)) 1 0

@@ -2,22 +2,20 @@
 use mathlib.Core.Path.{_≡_, refl, sym, ap, _∙_}
 use mathlib.Core.Bool.{Bool, true, false, cond}
 use mathlib.Core.Logic.{inl, inr}
-use mathlib.Core.List.{List, [], _∷_, _++_}
+use mathlib.Core.List.{List, [], _∷_}
 use Prim.Native.Nat.{ℕ, zero, suc, _+_, _-_, _*_, _/_, _%_, _≤_, _<_}
 use native.Mathlib.Omega.{arith}
 use native.Mathlib.Nat.{suc-mul}
 use native.Mathlib.Numerals.{add-one}
 use lib.Dec.{ltb, eqb}
-use lib.ListN.{length}
 use Rattle.std.specs.Iters.{counting}
 use Rattle.std.specs.shelf.Lists.{countBy}
-use Rattle.std.proofs.shelf.Tests.{lt-ltb, le-ltb, cond-true, cond-false, cases-lt}
+use Rattle.std.proofs.shelf.Tests.{lt-ltb, le-ltb, cases-lt}
 use Rattle.std.proofs.shelf.Bits.{mul-add-lt, mul-le, div-below, le-div, mod-below, div-add-mod', mod-mul-add, div-mul-add}
 use Rattle.std.proofs.shelf.Ways.{tells}
-use Rattle.std.specs.declared.option.Option.{Option}
 use Rattle.std.specs.declared.option.Option.the-variants.{Some, None}
-use Rattle.tapes.specs.Drawing.{Drawn, short, drawn, value-of, rest-of}
-use Rattle.tapes.specs.Digits.{bound, digit, draws, spells, spellings, Fair}
+use Rattle.tapes.specs.Drawing.{short, drawn}
+use Rattle.tapes.specs.Digits.{bound, digit, spells, Fair}
 use Rattle.tapes.proofs.Counts.{countBy-counting-more}
 
 module _ (b : ℕ) (some : 0 < b) where
@@ -102,15 +100,6 @@ digit-below b some (x ∷ t) d rest e = go (digit-below b some t d rest) (ltb x 
     go : (digit b t ≡ drawn d rest → d < b) → (kept : Bool) → cond kept (drawn (x % b) t) (digit b t) ≡ drawn d rest → d < b
     go later true f = let is : x % b ≡ d = cc in omega (arith, mod-below x b some)
     go later false f = later f
-
--- The answer and what it leaves, as what was drawn.
-pub from-answer : {A : Type 0} (a : A) (rest : List ℕ) (drawing : Drawn A) → Some a ≡ value-of drawing → rest ≡ rest-of drawing → drawing ≡ drawn a rest
-from-answer a rest short answer leaves = let z : _≡_ {A = ℕ} 0 1 = cc in absurd (omega arith)
-from-answer a rest (drawn a′ rest′) answer leaves = cc
-
-pub from-none : {A : Type 0} (rest : List ℕ) (drawing : Drawn A) → None ≡ value-of drawing → rest ≡ rest-of drawing → (drawing ≡ short) × (rest ≡ [])
-from-none rest short answer leaves = (refl, leaves)
-from-none rest (drawn a rest′) answer leaves = let z : _≡_ {A = ℕ} 0 1 = cc in absurd (omega arith)
 
 -- The two ends of drawing a digit.
 module _ (b : ℕ) (t0 : List ℕ) where

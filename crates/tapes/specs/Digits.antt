@@ -1,7 +1,7 @@
 -- Digits drawn from a tape, and why they are fair.
 use mathlib.Core.Path.{_≡_}
 use mathlib.Core.Bool.{Bool, false, cond, _&&_}
-use mathlib.Core.List.{List, [], _∷_}
+use mathlib.Core.List.{[], _∷_}
 use Prim.Native.Nat.{ℕ, _-_, _/_, _%_, _≤_, _<_}
 use lib.Dec.{leb, ltb, eqb}
 use Rattle.std.specs.Iters.{counting}
@@ -22,13 +22,13 @@ digit base [] = short
 digit base (byte ∷ rest) = cond (ltb byte (bound base)) (drawn (byte % base) rest) (digit base rest)
 
 -- Whether a digit was drawn, and is d.
-abbrev pub draws : ℕ → Drawn ℕ → Bool
-draws d short = false
-draws d (drawn e rest) = eqb e d
+abbrev pub drew : ℕ → Drawn ℕ → Bool
+drew d short = false
+drew d (drawn e rest) = eqb e d
 
 -- Whether a byte, alone on a tape, spells the digit d.
 abbrev pub spells : (base d byte : ℕ) → Bool
-spells base d byte = draws d (digit base (byte ∷ []))
+spells base d byte = drew d (digit base (byte ∷ []))
 
 -- How many of the 256 bytes spell the digit d.
 abbrev pub spellings : (base d : ℕ) → ℕ

@@ -1,11 +1,10 @@
 -- Worked examples: what the definitions yield.
 use mathlib.Core.Path.{_≡_, refl}
-use mathlib.Core.List.{List, [], _∷_}
-use Prim.Native.Nat.{ℕ}
+use mathlib.Core.List.{[], _∷_}
 use Rattle.tapes.specs.Tapes.{arithmetic-run}
 use Rattle.tapes.specs.Drawing.{drawn, short}
 use Rattle.tapes.specs.Digits.{digit}
-use Rattle.tapes.specs.Orders.{columns, arranged, digits, order}
+use Rattle.tapes.specs.Orders.{columns, arranged, order}
 
 -- In base 3 the bytes 255, 254 give the digit 2: the bound is 255, so that 255 is thrown away, and 254 is 84 * 3 + 2.
 pub base-three : digit 3 (255 ∷ 254 ∷ []) ≡ drawn 2 []

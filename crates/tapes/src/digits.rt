@@ -1,4 +1,4 @@
-// Digits drawn from a tape, each as likely as any other of its base.
+// Digits drawn from a tape. Every digit of a base is spelled by equally many bytes.
 ghost use mathlib.Core.Path.{_≡_};
 ghost use mathlib.Core.Bool.{cond};
 ghost use Prim.Native.Nat.{_%_, _≤_};
@@ -12,7 +12,7 @@ use crate::Tape;
 // The smallest and the greatest base.
 const BASE_MIN: u8 = 2;
 
-const BASE_MAX: u8 = 128;
+pub(crate) const BASE_MAX: u8 = 128;
 
 // The base of a digit, 2 to 128.
 #[derive(Clone, Copy)]
@@ -25,7 +25,7 @@ pub struct Base {
 impl Base {
     // This number as a base; `None` outside 2 to 128.
     pub fn new(value: u8) -> Option<Base>
-        ensures { λ r. ⌜ mapped (λ b. b .value) r ≡ cond (is-base value) (Some value) None ⌝ }
+        ensures answers { λ r. ⌜ mapped (λ b. b .value) r ≡ cond (is-base value) (Some value) None ⌝ }
     {
         if value < BASE_MIN || value > BASE_MAX {
             return None;
@@ -42,21 +42,23 @@ impl Base {
         Base { value }
     }
 
+    // The number that it is.
     pub fn value(self) -> u8
-        ensures { λ r. ⌜ r ≡ self .value ⌝ }
+        ensures gives { λ r. ⌜ r ≡ self .value ⌝ }
     {
         self.value
     }
 }
 
-// The digit that a byte spells; `None` for a byte at or above the bound. The bytes fall into rows of `base`, one for each
-// digit. The bound lies where the last whole row ends, so a byte counts if its row ends by 256.
+// The digit that a byte spells; `None` for a byte at or above the bound. The bytes 0 to 255 fall into rows, of one byte for
+// each digit, and the bound is the end of the last whole row: so a byte is below it if its row begins by 256 - base.
 fn spelled(byte: u8, base: Base) -> Option<u8>
     ensures { λ r. ⌜ r ≡ cond (ltb byte (bound (base .value))) (Some (byte % base .value)) None ⌝ }
 {
     let digit = byte % base.value;
     let row = byte - digit;
-    if row > u8::MAX - (base.value - 1) {
+    let last_row = u8::MAX - (base.value - 1);
+    if row > last_row {
         return None;
     }
     Some(digit)

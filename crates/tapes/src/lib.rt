@@ -27,11 +27,11 @@ pub trait Tape {
 
     // Takes the first byte that waits. Where none waits, `None`, and the tape stays empty.
     fn next(&mut self) -> Option<u8>
-        ensures { λ r. ⌜ Cases r ((bytes (now (self .entry)) ≡ []) × (bytes (now (self .exit)) ≡ [])) (λ b. bytes (now (self .entry)) ≡ b ∷ bytes (now (self .exit))) ⌝ };
+        ensures takes { λ r. ⌜ Cases r ((bytes (now (self .entry)) ≡ []) × (bytes (now (self .exit)) ≡ [])) (λ b. bytes (now (self .entry)) ≡ b ∷ bytes (now (self .exit))) ⌝ };
 
     // How many bytes wait. Takes none.
     fn waiting(&self) -> usize
-        ensures { λ r. ⌜ r ≡ length (bytes (now (self .entry))) ⌝ };
+        ensures counts { λ r. ⌜ r ≡ length (bytes (now (self .entry))) ⌝ };
 }
 
 #[cfg(test)]

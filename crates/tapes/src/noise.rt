@@ -28,7 +28,7 @@ fn read_as_bytes(noise: &[u8])
 impl NoiseTape {
     // A tape on which exactly these bytes wait, in their order.
     pub fn new(noise: Vec<u8>) -> Self
-        ensures { λ r. ⌜ untaken (vec-items (r .noise)) (r .taken) ≡ vec-items noise ⌝ }
+        ensures waits { λ r. ⌜ untaken (vec-items (r .noise)) (r .taken) ≡ vec-items noise ⌝ }
     {
         read_as_bytes(&noise);
         NoiseTape { noise, taken: 0 }

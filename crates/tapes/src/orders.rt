@@ -12,11 +12,13 @@ ghost use Rattle.tapes.specs.Permutations.{Permutation, One-to-one};
 ghost use Rattle.tapes.specs.Blocks.{outcome};
 use crate::Base;
 use crate::Tape;
+use crate::digits::BASE_MAX;
 use crate::draw_digit;
 
-// The most columns of a block.
-const COLUMNS_MAX: usize = 128;
+// The most columns of a block: its first digit has a base of so many.
+const COLUMNS_MAX: usize = BASE_MAX as usize;
 
+// Writes the columns 0, 1, 2 and so on, in rising order.
 fn number_columns(order: &mut [u8])
     requires { ⌜ length (now order) ≤ 128 ⌝ }
     ensures { λ _. ⌜ now (order .exit) ≡ columns (length (now (order .entry))) ⌝ }
@@ -26,10 +28,11 @@ fn number_columns(order: &mut [u8])
     }
 }
 
-fn select(first: bool, a: u8, b: u8) -> u8
-    ensures { λ r. ⌜ r ≡ cond first a b ⌝ }
+// The first value where the test holds, and else the second: small enough to become a select and no branch.
+fn select(test: bool, a: u8, b: u8) -> u8
+    ensures { λ r. ⌜ r ≡ cond test a b ⌝ }
 {
-    if first { a } else { b }
+    if test { a } else { b }
 }
 
 // Brings the column at a place to the front. Every place is written, whatever the digit, so that no branch depends on it.

@@ -14,7 +14,7 @@ pub struct PracticeTape {
 impl PracticeTape {
     // A tape on which `count` bytes wait: `byte` first, then each by `step` more, mod 256.
     pub fn new(byte: u8, step: u8, count: u32) -> Self
-        ensures { λ r. ⌜ arithmetic-run (r .byte) (r .step) (r .count) ≡ arithmetic-run byte step count ⌝ }
+        ensures waits { λ r. ⌜ arithmetic-run (r .byte) (r .step) (r .count) ≡ arithmetic-run byte step count ⌝ }
     {
         PracticeTape { byte, step, count }
     }

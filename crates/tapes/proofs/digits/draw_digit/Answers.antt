@@ -1,4 +1,4 @@
-use mathlib.Core.Path.{_≡_, sym, ap}
+use mathlib.Core.Path.{_≡_}
 use mathlib.Core.List.{[], _∷_}
 use mathlib.Core.Bool.{cond}
 use Prim.Native.Nat.{_%_}
@@ -6,7 +6,7 @@ use native.Mathlib.Omega.{arith}
 use lib.Dec.{ltb}
 use borrow.Author.Needs.{needs}
 use Rattle.std.specs.declared.option.Option.the-variants.{Some, None}
-use Rattle.tapes.specs.Drawing.{short, drawn, value-of, rest-of}
+use Rattle.tapes.specs.Drawing.{short, drawn}
 use Rattle.tapes.specs.Digits.{digit, bound}
 use Rattle.tapes.proofs.Spellings.{digit-short, digit-drawn, fair}
 use Rattle.tapes.proofs.digits.draw_digit.Needs as need

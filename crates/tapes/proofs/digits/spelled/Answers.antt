@@ -4,8 +4,8 @@ use Rattle.std.proofs.shelf.Tests.{lt-ltb, le-ltb, cond-true, cond-false}
 use Rattle.tapes.proofs.Spellings.{row-whole, row-cut}
 use Rattle.tapes.proofs.digits.spelled.Needs as need
 
-pub returns-then-row-base : need.returns-then-row-base
-returns-then-row-base c =
+pub returns-then-row-last-row : need.returns-then-row-last-row
+returns-then-row-last-row c =
     let base = c .args .base in
     sym (cond-false _ _ _ (le-ltb _ _ (row-cut (base .value) (omega arith) (c .args .byte) (omega arith))))
 

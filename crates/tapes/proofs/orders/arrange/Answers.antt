@@ -1,13 +1,13 @@
 use mathlib.Core.Path.{_≡_, sym, _∙_, ap}
-use mathlib.Core.List.{[]}
 use Prim.Native.Nat.{_-_}
 use native.Mathlib.Omega.{arith}
 use lib.ListN.{length}
 use borrow.Author.Needs.{needs}
 use Rattle.std.specs.declared.option.Option.the-variants.{None}
-use Rattle.tapes.specs.Drawing.{short, drawn, value-of, rest-of}
+use Rattle.tapes.specs.Drawing.{short, drawn, value-of}
 use Rattle.tapes.specs.Digits.{digit}
-use Rattle.tapes.proofs.Spellings.{digit-below, from-answer, from-none}
+use Rattle.tapes.proofs.Drawing.{from-answer, from-none}
+use Rattle.tapes.proofs.Spellings.{digit-below}
 use Rattle.tapes.proofs.Steps.{going-short, going-more, going-all}
 use Rattle.tapes.proofs.orders.arrange.Needs as need
 

@@ -6,8 +6,9 @@ use lib.ListN.{length, replicate}
 use Rattle.std.proofs.shelf.Tests.{eqb-true}
 use Rattle.tapes.specs.Drawing.{short, drawn}
 use Rattle.tapes.specs.Orders.{arranging, order}
-use Rattle.tapes.specs.Blocks.{Outcome, untouched, ordered, outcome}
-use Rattle.tapes.proofs.Outcomes.{not-empty, outcome-untouched, outcome-ordered, arranging-columns, when-some, when-none}
+use Rattle.tapes.specs.Blocks.{untouched, ordered, outcome}
+use Rattle.tapes.proofs.Drawing.{when-some, when-none}
+use Rattle.tapes.proofs.Outcomes.{not-empty, outcome-untouched, outcome-ordered, arranging-columns}
 use Rattle.tapes.proofs.Permutations.{one-to-one, order-permutation}
 use Rattle.tapes.proofs.orders.draw_order.Needs as need
 

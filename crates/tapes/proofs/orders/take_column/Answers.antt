@@ -1,6 +1,6 @@
 use mathlib.Core.Path.{_∙_, ap}
 use mathlib.Core.List.{_∷_, _++_}
-use lib.ListN.{getD, take, drop}
+use lib.ListN.{getD, take}
 use Rattle.std.specs.shelf.Lists.{removed}
 use Rattle.std.proofs.shelf.Lists.{take-rest}
 use Rattle.tapes.proofs.Steps.{put-rest}

@@ -11,11 +11,11 @@ returns-then-self-len c =
     let v = c .args .self .now .noise in
     let k = v .ok .0 in
     let h : length (vec-items v) ≤ c .args .self .now .taken = omega arith in
-    (drop-all _ _ h, drop-all _ _ h)
+    record { takes = (drop-all _ _ h, drop-all _ _ h) }
 
 pub returns : need.returns
 returns c =
     let v = c .args .self .now .noise in
     let k = v .ok .0 in
     let h : c .args .self .now .taken < length (vec-items v) = omega arith in
-    drop-read _ _ _ h (c .index-byte .ensures)
+    record { takes = drop-read _ _ _ h (c .index-byte .ensures) }

@@ -7,4 +7,4 @@ pub returns : need.returns
 returns c =
     let tape = c .args .self .now in
     let some : 0 < tape .count = omega arith in
-    run-next (tape .byte) (tape .step) (tape .count) (omega arith) some
+    record { takes = run-next (tape .byte) (tape .step) (tape .count) (omega arith) some }

@@ -3,4 +3,4 @@ use Rattle.tapes.proofs.Runs.{run-length}
 use Rattle.tapes.proofs.practice.PracticeTapeTape.waiting.Needs as need
 
 pub returns : need.returns
-returns c = sym (run-length _ _ _)
+returns c = record { counts = sym (run-length _ _ _) }
