@@ -1,0 +1,11 @@
+pub mod Drawing
+pub mod Counts
+pub mod Runs
+pub mod Spellings
+pub mod Removals
+pub mod Forward
+pub mod Steps
+pub mod Arrangements
+pub mod DigitLists
+pub mod Permutations
+pub mod Outcomes
