@@ -12,6 +12,7 @@ use Rattle.std.specs.shelf.Lists.{All}
 use Rattle.std.proofs.shelf.Tests.{cond-true, cond-false, cases-bool, or-cases, or-parts, or-left, or-right, or-from, and-parts, and-from, eqb-true, eqb-false, eq-eqb, ne-eqb, le-leb, lt-leb, leb-true, leb-false, le-ltb, ltb-false}
 use Rattle.std.proofs.shelf.Ways.{tells}
 use Rattle.pictures.specs.Reading.{Read, got, fault, _⟫_, isWhite, isDigit, magic, blank, gap, digits, number, white, allRows, opened}
+use Rattle.pictures.proofs.Steps.{go}
 use Rattle.pictures.specs.Rows.{rowBytes, RowsFit}
 use Rattle.pictures.specs.declared.refusals.PictureRefusal.{PictureRefusal}
 use Rattle.pictures.specs.Format.{White, Blank, nothing, white as whiteᵇ, comment, Gap, valueAfter, Digits, Number, PictureFile, Only, NoPicture}
@@ -287,9 +288,6 @@ gap-ends : {g : List ℕ} → Blank g → 0 < length g → (t : List ℕ) → En
 gap-ends nothing h t = absurd (omega arith)
 gap-ends (whiteᵇ {b} w r) h t = white-ends b w
 gap-ends (comment c n r) h t = refl
-
-go : {A B : Type 0} {r : Read A} {x : A} {t : List ℕ} (next : A → List ℕ → Read B) → r ≡ got x t → (r ⟫ next) ≡ next x t
-go next e = ap (λ p. p ⟫ next) e
 
 fits : (w h : ℕ) (s : List ℕ) → RowsFit w h s → allRows w h s ≡ got (w, h) s
 fits w h s e = cond-false _ _ _ (le-ltb (length s) (h * rowBytes w) (omega arith)) ∙ cond-false _ _ _ (le-ltb (h * rowBytes w) (length s) (omega arith))

@@ -9,8 +9,8 @@ use native.Mathlib.Omega.{arith}
 use lib.Dec.{leb, ltb, eqb}
 use lib.ListN.{length, drop, getD}
 use Rattle.std.proofs.shelf.Lists.{drop-more, drop-all}
-use Rattle.std.proofs.shelf.Tests.{cond-true, cond-false, or-from, and-right, lt-leb, lt-ltb, le-ltb, cases-lt}
-use Rattle.pictures.specs.Reading.{Read, got, fault, isWhite, isDigit, blank, gap, digits, number, white, allRows}
+use Rattle.std.proofs.shelf.Tests.{cond-true, cond-false, or-from, and-from, and-right, lt-leb, lt-ltb, le-ltb, cases-lt, eq-eqb}
+use Rattle.pictures.specs.Reading.{Read, got, fault, _⟫_, magic, isWhite, isDigit, blank, gap, digits, number, white, allRows}
 use Rattle.pictures.specs.Rows.{rowBytes}
 use Rattle.pictures.specs.Parts.{Stopped}
 use Rattle.pictures.specs.declared.refusals.PictureRefusal.{PictureRefusal}
@@ -27,6 +27,16 @@ stopped-by {why = why} {left = left} e p = subst (λ r. Stopped r why left) e p
 -- a stop before the bytes that the part is refused at
 pub stopped-at : {A : Type 0} (part : Read A) (why : PictureRefusal) (rest : List ℕ) (why′ : PictureRefusal) (left : ℕ) → part ≡ fault why rest → why′ ≡ why → left ≡ length rest → Stopped part why′ left
 stopped-at part why rest why′ left e f g = record { rest = rest; is = e ∙ ap (λ k. fault k rest) (sym f); count = g }
+
+-- from one part to the next
+pub go : {A B : Type 0} {r : Read A} {x : A} {t : List ℕ} (next : A → List ℕ → Read B) → r ≡ got x t → (r ⟫ next) ≡ next x t
+go next e = ap (λ p. p ⟫ next) e
+
+-- ---- the bytes 80 and 52
+pub magic-goes : (s : List ℕ) → 2 ≤ length s → getD s 0 0 ≡ 80 → getD s 1 0 ≡ 52 → magic s ≡ got tt (drop 2 s)
+magic-goes [] h a b = absurd (omega arith)
+magic-goes (x ∷ []) h a b = absurd (omega arith)
+magic-goes (x ∷ y ∷ s) h a b = cond-true _ _ _ (and-from _ _ (eq-eqb x 80 a) (eq-eqb y 52 b))
 
 -- ---- a gap
 module _ (s : List ℕ) (at : ℕ) where

@@ -14,6 +14,10 @@ use Rattle.pictures.specs.declared.refusals.HeadRefusal.the-variants.{Size, Bu
 abbrev pub headOf : ℕ → ℕ → List ℕ
 headOf w h = 80 ∷ 52 ∷ 10 ∷ (decimal w ++ (32 ∷ (decimal h ++ (10 ∷ []))))
 
+-- the bytes s with others written over their front
+abbrev pub overFront : List ℕ → List ℕ → List ℕ
+overFront front s = front ++ drop (length front) s
+
 abbrev pub withinSize : ℕ → ℕ → Bool
 withinSize w h = leb 1 w && leb w 32768 && leb 1 h && leb h 4096
 
@@ -26,4 +30,4 @@ abbrev pub heading : ℕ → ℕ → List ℕ → Heading
 heading w h buf =
     cond (not (withinSize w h)) (record { answer = Err Size; leaves = buf })
     (cond (ltb (length buf) (length (headOf w h))) (record { answer = Err BufferShort; leaves = buf })
-    (record { answer = Ok (length (headOf w h)); leaves = headOf w h ++ drop (length (headOf w h)) buf }))
+    (record { answer = Ok (length (headOf w h)); leaves = overFront (headOf w h) buf }))

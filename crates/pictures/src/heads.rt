@@ -2,13 +2,12 @@
 ghost use mathlib.Core.Path.{_≡_};
 ghost use Prim.Native.Nat.{ℕ, _+_, _≤_};
 ghost use mathlib.Core.List.{List, _++_};
-ghost use lib.ListN.{length, take, drop};
+ghost use lib.ListN.{length, take};
 ghost use Rattle.std.specs.Results.{Cases};
 ghost use Rattle.std.specs.Written.{decimal};
 ghost use Rattle.pictures.specs.Rows.{RowsFit};
 ghost use Rattle.pictures.specs.Reading.{got, opened};
-ghost use Rattle.pictures.specs.Head.{headOf, heading};
-
+ghost use Rattle.pictures.specs.Head.{headOf, overFront, heading};
 use crate::parts::LONGEST_SIDE;
 use crate::refusals::HeadRefusal;
 
@@ -27,8 +26,7 @@ fn decimal_len(n: u32) -> usize
 fn put_decimal(buf: &mut [u8], at: usize, n: u32) -> usize
     requires { ⌜ at + length (decimal n) ≤ length (now buf) ⌝ }
     ensures after { λ r. ⌜ r ≡ at + length (decimal n) ⌝ }
-    ensures front { λ r. ⌜ take r (now (buf .exit)) ≡ take at (now (buf .entry)) ++ decimal n ⌝ }
-    ensures back { λ r. ⌜ drop r (now (buf .exit)) ≡ drop r (now (buf .entry)) ⌝ }
+    ensures written { λ _. ⌜ now (buf .exit) ≡ overFront (take at (now (buf .entry)) ++ decimal n) (now (buf .entry)) ⌝ }
 {
     let mut place = at;
     if n >= 10 {

@@ -6,5 +6,8 @@ mod pictures;
 mod refusals;
 
 pub use heads::head;
-pub use pictures::{Picture, open};
-pub use refusals::{HeadRefusal, PictureFault, PictureRefusal};
+pub use pictures::Picture;
+pub use pictures::open;
+pub use refusals::HeadRefusal;
+pub use refusals::PictureFault;
+pub use refusals::PictureRefusal;

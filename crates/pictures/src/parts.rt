@@ -6,7 +6,6 @@ ghost use lib.ListN.{length};
 ghost use Rattle.std.specs.Results.{Cases};
 ghost use Rattle.pictures.specs.Parts.{Stopped};
 ghost use Rattle.pictures.specs.Reading.{got, isWhite, isDigit, magic, gap, number, white};
-
 use crate::refusals::PictureRefusal;
 
 /// The most points of a side of a picture.

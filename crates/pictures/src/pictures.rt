@@ -9,9 +9,14 @@ ghost use Rattle.pictures.specs.Format.{Only, NoPicture};
 ghost use Rattle.pictures.specs.Parts.{Stopped};
 ghost use Rattle.pictures.specs.Reading.{got, opened, FaultAt};
 ghost use Rattle.pictures.specs.FirstFault.{FirstFault, Whole};
-
-use crate::parts::{FILE_END, Stop, read_number, skip_gap, skip_magic, skip_white};
-use crate::refusals::{PictureFault, PictureRefusal};
+use crate::parts::FILE_END;
+use crate::parts::Stop;
+use crate::parts::read_number;
+use crate::parts::skip_gap;
+use crate::parts::skip_magic;
+use crate::parts::skip_white;
+use crate::refusals::PictureFault;
+use crate::refusals::PictureRefusal;
 
 /// A picture file that was opened. Its rows are a part of the file.
 #[derive(Clone, Copy)]

@@ -2,7 +2,6 @@
 ghost use mathlib.Core.Path.{_≡_};
 ghost use Rattle.std.specs.declared.option.Option.the-variants.{Some};
 ghost use Rattle.pictures.specs.Refusals.{numberOf, wordsOf, shownAt, headNumberOf, headWordsOf, headShown};
-
 use std::fmt;
 
 /// Why a picture file was not opened, or has no such row.
