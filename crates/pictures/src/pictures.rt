@@ -59,7 +59,8 @@ impl<'a> Picture<'a> {
     /// Row `y`, from 0, as a part of the file: the width divided by 8 and rounded up in bytes, highest bit first, 1 for black.
     /// Every row below the height is there; from the height on `NoSuchRow` is answered, at place 0.
     pub fn row(&self, y: u32) -> Result<&'a [u8], PictureFault>
-        ensures answers { λ r. ⌜ Cases r (λ s. rowOf (now (self .entry) .width) (now (self .entry) .height) (now (now (self .entry) .rows)) y ≡ Some (now s)) (λ e. (rowOf (now (self .entry) .width) (now (self .entry) .height) (now (now (self .entry) .rows)) y ≡ None) × (e .refusal ≡ NoSuchRow) × (e .place ≡ 0)) ⌝ }
+        ensures answers { λ r. ⌜ Cases r (λ s. rowOf (now (self .entry) .width) (now (self .entry) .height) (now (now (self .entry) .rows)) y ≡ Some (now s)) (λ _. rowOf (now (self .entry) .width) (now (self .entry) .height) (now (now (self .entry) .rows)) y ≡ None) ⌝ }
+        ensures refuses { λ r. ⌜ Cases r (λ _. Unit {0}) (λ e. (e .refusal ≡ NoSuchRow) × (e .place ≡ 0)) ⌝ }
     {
         let size = row_bytes(self.width);
         let from = y as usize * size;
