@@ -14,6 +14,9 @@ use crate::refusals::HeadRefusal;
 /// The most points of a row that a head may name.
 const WIDEST: u32 = 32768;
 
+/// The first line of every head.
+const MAGIC_LINE: [u8; 3] = *b"P4\n";
+
 /// How many decimal digits `n` has.
 fn decimal_len(n: u32) -> usize
     ensures is { λ r. ⌜ r ≡ length (decimal n) ⌝ }
@@ -47,11 +50,11 @@ pub fn head(buf: &mut [u8], w: u32, h: u32) -> Result<usize, HeadRefusal>
     if w < 1 || w > WIDEST || h < 1 || h > LONGEST_SIDE {
         return Err(HeadRefusal::Size);
     }
-    if buf.len() < 3 + decimal_len(w) + 1 + decimal_len(h) + 1 {
+    if buf.len() < MAGIC_LINE.len() + decimal_len(w) + 1 + decimal_len(h) + 1 {
         return Err(HeadRefusal::BufferShort);
     }
-    buf[0..3].copy_from_slice(b"P4\n");
-    let after_width = put_decimal(buf, 3, w);
+    buf[0..MAGIC_LINE.len()].copy_from_slice(&MAGIC_LINE);
+    let after_width = put_decimal(buf, MAGIC_LINE.len(), w);
     buf[after_width] = b' ';
     let after_height = put_decimal(buf, after_width + 1, h);
     buf[after_height] = b'\n';

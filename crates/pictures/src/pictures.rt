@@ -1,6 +1,6 @@
 // Opening a picture file, and its rows. It rests on the readers of the parts.
 ghost use mathlib.Core.Path.{_≡_};
-ghost use Prim.Native.Nat.{ℕ, _≤_, _<_};
+ghost use Prim.Native.Nat.{ℕ, _^_, _≤_, _<_};
 ghost use Rattle.std.specs.Results.{Cases};
 ghost use Rattle.std.specs.declared.option.Option.the-variants.{Some, None};
 ghost use Rattle.pictures.specs.declared.refusals.PictureRefusal.the-variants.{NoSuchRow};
@@ -29,7 +29,7 @@ pub struct Picture<'a> {
 /// The bytes of a row of `w` points.
 fn row_bytes(w: u32) -> usize
     ensures is { λ r. ⌜ r ≡ rowBytes w ⌝ }
-    ensures bound { λ r. ⌜ r ≤ 536870912 ⌝ }
+    ensures bound { λ r. ⌜ r ≤ 2 ^ 29 ⌝ }
 {
     w.div_ceil(8) as usize
 }
@@ -74,7 +74,10 @@ impl<'a> Picture<'a> {
     }
 }
 
-/// Opens a picture file, or answers its first fault from the front. Nothing is copied.
+/// Opens a picture file: its width, its height and its rows, which stay where they are in the file. Nothing is copied, and the time
+/// does not grow with the rows.
+/// Else the first fault from the front is answered, with the number of bytes before it: `WrongMagic` at 0, `WrongByte` at that byte,
+/// `NumberOutside` at the number's first digit, `EndsEarly` at the file's end, or `BytesAfterRows` at the first of them.
 pub fn open(file: &[u8]) -> Result<Picture<'_>, PictureFault>
     ensures answers { λ r. ⌜ Cases r (λ p. opened (now (file .entry)) ≡ got (p .width, p .height) (now (p .rows))) (λ e. FaultAt (now (file .entry)) (e .refusal) (e .place)) ⌝ }
     ensures grammar { λ r. ⌜ Cases r (λ p. Only (now (file .entry)) (p .width) (p .height) (now (p .rows))) (λ _. NoPicture (now (file .entry))) ⌝ }
@@ -90,6 +93,7 @@ pub fn open(file: &[u8]) -> Result<Picture<'_>, PictureFault>
     }
 }
 
+/// The parts one after another, as far as they go.
 fn read_picture(file: &[u8]) -> Result<Picture<'_>, Stop>
     ensures { λ r. ⌜ Cases r (λ p. opened (now (file .entry)) ≡ got (p .width, p .height) (now (p .rows))) (λ e. Stopped (opened (now (file .entry))) (e .refusal) (e .left)) ⌝ }
 {
