@@ -1,0 +1,45 @@
+use mathlib.Core.Path.{_≡_, sym, ap, _∙_}
+use mathlib.Core.List.{_++_}
+use Prim.Native.Nat.{_+_, _%_, _/_, _<_}
+use native.Mathlib.Omega.{arith}
+use lib.ListN.{length, take, set}
+use Rattle.std.specs.Written.{decimal}
+use Rattle.pictures.specs.Head.{overFront}
+use Rattle.pictures.proofs.Written.{length-digit, length-step, put-last, put-only}
+use Rattle.pictures.proofs.heads.+put_decimal.Needs as need
+use Rattle.pictures.proofs.heads.+put_decimal.Needs.{then-n-ge10, else-n-ge10}
+
+pub put-decimal-place-requires : need.put-decimal-place-requires
+put-decimal-place-requires t c κs = (omega arith, omega (arith, length-step (c .args .n) (c .if-n-ge10 .taken) (omega arith)))
+
+pub index-buf-place : need.index-buf-place
+index-buf-place t c =
+    elim (c .if-n-ge10 .came) [
+      | then-n-ge10 w ↦ omega (arith, w .place-is, w .put-decimal-place .ensures .after, length-step (c .args .n) (w .if-n-ge10 .taken) (omega arith))
+      | else-n-ge10 w ↦ omega (arith, w .place-is, length-digit (c .args .n) (w .if-n-ge10 .left))
+    ]
+
+pub add-result : need.add-result
+add-result t c =
+    elim (c .if-n-ge10 .came) [
+      | then-n-ge10 w ↦ omega (arith, w .place-is, w .put-decimal-place .ensures .after, length-step (c .args .n) (w .if-n-ge10 .taken) (omega arith))
+      | else-n-ge10 w ↦ omega (arith, w .place-is, length-digit (c .args .n) (w .if-n-ge10 .left))
+    ]
+
+pub returns : need.returns
+returns t c =
+    elim (c .if-n-ge10 .came) [
+      | then-n-ge10 w ↦
+          let more = length-step (c .args .n) (w .if-n-ge10 .taken) (omega arith) in
+          let after = w .put-decimal-place .ensures .after in
+          record {
+            after = omega (arith, w .place-is);
+            written = put-last (c .args .buf .now) (c .if-n-ge10 .buf) (c .args .at) (c .if-n-ge10 .place) (c .args .n) (omega arith) (omega (arith, w .place-is)) (omega (arith, w .place-is)) (w .if-n-ge10 .taken) (omega arith) (w .buf-is ∙ w .put-decimal-place .ensures .written);
+          }
+      | else-n-ge10 w ↦
+          let one = length-digit (c .args .n) (w .if-n-ge10 .left) in
+          record {
+            after = omega (arith, w .place-is);
+            written = (λ i. set (w .buf-is i) (w .place-is i) (48 + c .args .n % 10)) ∙ put-only (c .args .buf .now) (c .args .at) (c .args .n) (omega arith) (w .if-n-ge10 .left);
+          }
+    ]
