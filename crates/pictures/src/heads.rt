@@ -25,7 +25,11 @@ fn decimal_len(n: u32) -> usize
     ensures is { λ r. ⌜ r ≡ length (decimal n) ⌝ }
     ensures bound { λ r. ⌜ r ≤ 10 ⌝ }
 {
-    if n < TWO_DIGITS { 1 } else { decimal_len(n / 10) + 1 }
+    if n < TWO_DIGITS {
+        1
+    } else {
+        decimal_len(n / 10) + 1
+    }
 }
 
 /// Writes the decimal digits of `n` at `at`, and answers the place after them.
