@@ -14,6 +14,9 @@ use crate::refusals::HeadRefusal;
 /// The most points of a row that a head may name.
 const WIDEST: u32 = 32768;
 
+/// The least number of two digits.
+const TWO_DIGITS: u32 = 10;
+
 /// The first line of every head.
 const MAGIC_LINE: [u8; 3] = *b"P4\n";
 
@@ -22,7 +25,11 @@ fn decimal_len(n: u32) -> usize
     ensures is { λ r. ⌜ r ≡ length (decimal n) ⌝ }
     ensures bound { λ r. ⌜ r ≤ 10 ⌝ }
 {
-    if n < 10 { 1 } else { decimal_len(n / 10) + 1 }
+    if n < TWO_DIGITS {
+        1
+    } else {
+        decimal_len(n / 10) + 1
+    }
 }
 
 /// Writes the decimal digits of `n` at `at`, and answers the place after them.
@@ -32,7 +39,7 @@ fn put_decimal(buf: &mut [u8], at: usize, n: u32) -> usize
     ensures written { λ _. ⌜ now (buf .exit) ≡ overFront (take at (now (buf .entry)) ++ decimal n) (now (buf .entry)) ⌝ }
 {
     let mut place = at;
-    if n >= 10 {
+    if n >= TWO_DIGITS {
         place = put_decimal(buf, at, n / 10);
     }
     buf[place] = b'0' + (n % 10) as u8;

@@ -5,11 +5,11 @@ use Rattle.std.proofs.shelf.Decimals.{length-decimal-le}
 use Rattle.pictures.proofs.Written.{length-digit, length-step}
 use Rattle.pictures.proofs.heads.+decimal_len.Needs as need
 
-pub returns-then-n-lt10 : need.returns-then-n-lt10
-returns-then-n-lt10 t c = record { is = sym (length-digit (c .args .n) (c .if-n-lt10 .taken)); bound = omega arith }
+pub returns-then-n-lt-TWO-DIGITS : need.returns-then-n-lt-TWO-DIGITS
+returns-then-n-lt-TWO-DIGITS t c = record { is = sym (length-digit (c .args .n) (c .if-n-lt-TWO-DIGITS .taken)); bound = omega arith }
 
-pub returns-else-n-lt10 : need.returns-else-n-lt10
-returns-else-n-lt10 t c =
-    let step = length-step (c .args .n) (c .if-n-lt10 .left) (omega arith) in
+pub returns-else-n-lt-TWO-DIGITS : need.returns-else-n-lt-TWO-DIGITS
+returns-else-n-lt-TWO-DIGITS t c =
+    let step = length-step (c .args .n) (c .if-n-lt-TWO-DIGITS .left) (omega arith) in
     let most = length-decimal-le 10 (c .args .n) (omega arith) (omega arith) (omega arith) in
     record { is = omega arith; bound = omega arith }
