@@ -1,0 +1,4 @@
+pub mod LayFacts
+pub mod ContrastFacts
+pub mod ReadFacts
+pub mod ReadingFacts
