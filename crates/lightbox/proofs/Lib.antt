@@ -1,4 +1,5 @@
 pub mod LayFacts
+pub mod StackFacts
 pub mod ContrastFacts
 pub mod ReadFacts
 pub mod ReadingFacts

@@ -21,7 +21,7 @@ Blackened row c after = (j : ℕ) → bit-at after j ≡ ((eqb j c && ltb c (8 *
 module _ (m light dark w : ℕ) (glass : List ℕ) where
   -- the first n pixels are read, and the others are white
   pub record ReadSoFar (n : ℕ) (row : List ℕ) : Type 0 where
-    pub counted : (c : ℕ) → c < n → glass-count m light dark w glass c ≡ cond (bit-at row c) dark light
+    pub counted : (c : ℕ) → c < n → glass-count m glass c ≡ cond (bit-at row c) dark light
     pub rest : (c : ℕ) → n ≤ c → bit-at row c ≡ false
     pub below : (i : ℕ) → getD row i 0 < 256
 
@@ -32,7 +32,7 @@ module _ (m light dark w : ℕ) (glass : List ℕ) where
     below = λ i. let e = byte-of-zeros size i in omega arith;
   }
 
-  pub black-read : (n : ℕ) (row after : List ℕ) → n < 8 * length row → ReadSoFar n row → glass-count m light dark w glass n ≡ dark
+  pub black-read : (n : ℕ) (row after : List ℕ) → n < 8 * length row → ReadSoFar n row → glass-count m glass n ≡ dark
       → Blackened row n after → ((i : ℕ) → getD after i 0 < 256) → ReadSoFar (n + 1) after
   black-read n row after within so e new below =
       let other : (c : ℕ) → c ≢ n → bit-at after c ≡ bit-at row c
@@ -41,18 +41,18 @@ module _ (m light dark w : ℕ) (glass : List ℕ) where
       = λ c f. new c ∙ rw (eq-eqb c n f, lt-ltb n (8 * length row) within) refl in
       record {
         counted = λ c l. elim (cases-eq c n) [
-          | inl f ↦ ap (glass-count m light dark w glass) f ∙ e ∙ sym (ap (λ (b : Bool). cond b dark light) (here c f))
+          | inl f ↦ ap (glass-count m glass) f ∙ e ∙ sym (ap (λ (b : Bool). cond b dark light) (here c f))
           | inr ne ↦ so .counted c (omega arith) ∙ ap (λ (b : Bool). cond b dark light) (sym (other c ne))
         ];
         rest = λ c l. other c (omega arith) ∙ so .rest c (omega arith);
         below = below;
       }
 
-  pub white-read : (n : ℕ) (row : List ℕ) → ReadSoFar n row → glass-count m light dark w glass n ≡ light → ReadSoFar (n + 1) row
+  pub white-read : (n : ℕ) (row : List ℕ) → ReadSoFar n row → glass-count m glass n ≡ light → ReadSoFar (n + 1) row
   white-read n row so e =
       record {
         counted = λ c l. elim (cases-eq c n) [
-          | inl f ↦ ap (glass-count m light dark w glass) f ∙ e ∙ sym (ap (λ (b : Bool). cond b dark light) (so .rest c (omega arith)))
+          | inl f ↦ ap (glass-count m glass) f ∙ e ∙ sym (ap (λ (b : Bool). cond b dark light) (so .rest c (omega arith)))
           | inr ne ↦ so .counted c (omega arith)
         ];
         rest = λ c l. so .rest c (omega arith);
@@ -68,8 +68,8 @@ module _ (m light dark w : ℕ) (glass : List ℕ) where
   pub all-read : (n : ℕ) (row : List ℕ) → n ≡ w → length row ≡ bytes-for w → light < dark → ReadSoFar n row → RowRead m light dark w glass row
   all-read n row e long l so = record {
     bytes = record { long = long; below = so .below };
-    white = λ c h. tells-colour (bit-at row c) (glass-count m light dark w glass c) l (so .counted c (omega arith)) .0;
-    black = λ c h. tells-colour (bit-at row c) (glass-count m light dark w glass c) l (so .counted c (omega arith)) .1;
+    white = λ c h. tells-colour (bit-at row c) (glass-count m glass c) l (so .counted c (omega arith)) .0;
+    black = λ c h. tells-colour (bit-at row c) (glass-count m glass c) l (so .counted c (omega arith)) .1;
     spare = λ c h. so .rest c (omega arith);
   }
 
@@ -77,11 +77,11 @@ module _ (m light dark w : ℕ) (glass : List ℕ) where
   either-level true n e = inr e
   either-level false n e = inl e
 
-  pub neither-read : (n : ℕ) (row : List ℕ) → n < w → (glass-count m light dark w glass n ≡ light → ⊥) → (glass-count m light dark w glass n ≡ dark → ⊥)
+  pub neither-read : (n : ℕ) (row : List ℕ) → n < w → (glass-count m glass n ≡ light → ⊥) → (glass-count m glass n ≡ dark → ⊥)
       → ReadSoFar n row → FirstNeither m light dark w glass n
   neither-read n row l not-light not-dark so = record {
     within = l;
     not-light = not-light;
     not-dark = not-dark;
-    before = λ c h. either-level (bit-at row c) (glass-count m light dark w glass c) (so .counted c h);
+    before = λ c h. either-level (bit-at row c) (glass-count m glass c) (so .counted c h);
   }

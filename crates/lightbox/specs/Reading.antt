@@ -14,6 +14,7 @@ use Rattle.std.specs.declared.option.Option.the-variants.{None}
 use Rattle.std.specs.declared.result.Result.{Result}
 use Rattle.std.specs.declared.result.Result.the-variants.{Ok, Err}
 use Rattle.schemes.specs.declared.colour.Colour.the-variants.{White, Black}
+use Rattle.schemes.specs.Laws.{InRange, Lawful}
 use Rattle.schemes.specs.Meaning.{Meaning, blacks, light, dark}
 use Rattle.schemes.specs.PackedRows.{bytes-for, bit-at, packed, Bytes}
 use Rattle.schemes.specs.Strips.{most-pixels, most-squares, strip-squares, strip-size, blacks-over, pixel}
@@ -34,33 +35,26 @@ early-refusal s set w glass-bytes out-bytes =
     (not (eqb glass-bytes (strip-size (s .m) w)), GlassLength) ∷
     (not (eqb out-bytes (bytes-for w)), OutputLength) ∷ [])
 
--- What a reading that is not refused early goes by: light, dark and m of the set.
-pub record Admitted (s : Meaning) (set w glass-bytes out-bytes : ℕ) (seen : ℕ × ℕ × ℕ) : Type 0 where
-  pub not-refused : early-refusal s set w glass-bytes out-bytes ≡ None
-  pub contrast : seen ≡ (light s set, dark s set, s .m)
-  pub darker : light s set < dark s set
-  pub out-long : out-bytes ≡ bytes-for w
-
 -- ---- the counts of w pixels with m squares each, and the two levels that they are held against
 
-module _ (m light-level dark-level w : ℕ) (glass : List ℕ) where
-  -- How many squares of pixel c are black on the glass.
-  abbrev pub glass-count : (c : ℕ) → ℕ
-  glass-count c = blacks-over m (bit-at glass) c
+-- How many squares of pixel c are black on the glass.
+abbrev pub glass-count : (m : ℕ) (glass : List ℕ) (c : ℕ) → ℕ
+glass-count m glass c = blacks-over m (bit-at glass) c
 
+module _ (m light-level dark-level w : ℕ) (glass : List ℕ) where
   -- A row that is read: white exactly where the count is light, black exactly where it is dark, and spare bits 0.
   pub record RowRead (row : List ℕ) : Type 0 where
     pub bytes : Bytes (bytes-for w) row
-    pub white : (c : ℕ) → c < w → (pixel row c ≡ White) ↔ (glass-count c ≡ light-level)
-    pub black : (c : ℕ) → c < w → (pixel row c ≡ Black) ↔ (glass-count c ≡ dark-level)
+    pub white : (c : ℕ) → c < w → (pixel row c ≡ White) ↔ (glass-count m glass c ≡ light-level)
+    pub black : (c : ℕ) → c < w → (pixel row c ≡ Black) ↔ (glass-count m glass c ≡ dark-level)
     pub spare : (c : ℕ) → w ≤ c → bit-at row c ≡ false
 
   -- The first pixel whose count is neither light nor dark.
   pub record FirstNeither (c : ℕ) : Type 0 where
     pub within : c < w
-    pub not-light : glass-count c ≡ light-level → ⊥
-    pub not-dark : glass-count c ≡ dark-level → ⊥
-    pub before : (b : ℕ) → b < c → (glass-count b ≡ light-level) ⊎ (glass-count b ≡ dark-level)
+    pub not-light : glass-count m glass c ≡ light-level → ⊥
+    pub not-dark : glass-count m glass c ≡ dark-level → ⊥
+    pub before : (b : ℕ) → b < c → (glass-count m glass b ≡ light-level) ⊎ (glass-count m glass b ≡ dark-level)
 
   -- What comes of the counts: a row, or the first pixel that is neither, and an output that is all 0.
   abbrev pub Counted : Result Unit ReadRefusal → (row : List ℕ) → Type 0
@@ -78,17 +72,18 @@ Reading s set w glass out r row =
     (Counted (s .m) (light s set) (dark s set) w glass r row)
     (λ why. (r ≡ Err why) × (row ≡ out))
 
--- There is only one answer to a reading, and only one output.
-abbrev pub ReadingsAgree : Type 0
-ReadingsAgree =
-    (s : Meaning) (set w : ℕ) (glass out : List ℕ) (r r′ : Result Unit ReadRefusal) (row row′ : List ℕ) →
-    Reading s set w glass out r row → Reading s set w glass out r′ row′ → (r ≡ r′) × (row ≡ row′)
+-- Every reading has an answer and an output, and no others: those of `Reading` are determined.
+abbrev pub OneReading : Type 0
+OneReading =
+    (s : Meaning) → InRange s → Lawful s → (set w : ℕ) (glass out : List ℕ) →
+    (r : Result Unit ReadRefusal) × (row : List ℕ) × Reading s set w glass out r row ×
+    ((r′ : Result Unit ReadRefusal) (row′ : List ℕ) → Reading s set w glass out r′ row′ → (r′ ≡ r) × (row′ ≡ row))
 
 -- ---- a secret row is read back
 
 -- The glass shows a secret row to the set: over each pixel as many black squares as the scheme has for its colour.
 abbrev pub Shows : Meaning → (set w : ℕ) (glass secret : List ℕ) → Type 0
-Shows s set w glass secret = (c : ℕ) → c < w → blacks-over (s .m) (bit-at glass) c ≡ blacks s (pixel secret c) set
+Shows s set w glass secret = (c : ℕ) → c < w → glass-count (s .m) glass c ≡ blacks s (pixel secret c) set
 
 -- A row of w pixels with its spare bits cleared.
 abbrev pub cleared : (w : ℕ) (row : List ℕ) → List ℕ

@@ -2,7 +2,7 @@
 ghost use mathlib.Core.Path.{_≡_};
 ghost use lib.ListN.{length};
 ghost use Rattle.schemes.specs.Refusals.{refusal-in};
-ghost use Rattle.lightbox.specs.Laying.{lay-refusal, laid, StacksAddUp};
+ghost use Rattle.lightbox.specs.Laying.{lay-refusal, laid, StacksAddUp, StacksOfMembers};
 use crate::LayRefusal;
 
 // Lays a strip on the glass: each byte of the glass becomes its OR with the strip's. Refused where the lengths differ, and
@@ -10,7 +10,8 @@ use crate::LayRefusal;
 pub fn lay(glass: &mut [u8], strip: &[u8]) -> Result<(), LayRefusal>
     ensures refusal { λ r. ⌜ refusal-in r ≡ lay-refusal (length (now (glass .entry))) (length (now (strip .entry))) ⌝ }
     ensures leaves { λ _. ⌜ now (glass .exit) ≡ laid (now (glass .entry)) (now (strip .entry)) ⌝ }
-    ensures stacks { λ _. ⌜ StacksAddUp ⌝ }
+    ensures adds { λ _. ⌜ StacksAddUp ⌝ }
+    ensures stacks { λ _. ⌜ StacksOfMembers ⌝ }
 {
     if glass.len() != strip.len() {
         return Err(LayRefusal::Lengths);

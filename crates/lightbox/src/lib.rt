@@ -25,3 +25,6 @@ pub use refusals::ReadRefusalDisplay;
 pub use refusals::ReadRefusalEq;
 pub use refusals::ReadRefusalFromContrast;
 pub use refusals::ReadRefusalPartialEq;
+
+#[cfg(test)]
+mod tests;

@@ -2,10 +2,12 @@
 ghost use mathlib.Core.Path.{_≡_};
 ghost use Prim.Native.Nat.{_*_, _<_, _≤_};
 ghost use lib.ListN.{length};
-ghost use Rattle.std.specs.Results.{Cases};
-ghost use Rattle.std.specs.declared.option.Option.the-variants.{Some, None};
+ghost use Rattle.std.specs.Vec.{made};
+ghost use Rattle.std.specs.declared.result.Result.the-variants.{Ok};
 ghost use Rattle.schemes.specs.PackedRows.{bytes-for};
-ghost use Rattle.lightbox.specs.Reading.{early-refusal, Admitted, Counted, Reading, ReadingsAgree, ReadsWhatShows};
+ghost use Rattle.schemes.specs.Refusals.{refusal-in};
+ghost use Rattle.lightbox.specs.Contrasts.{contrast-of, Distinct};
+ghost use Rattle.lightbox.specs.Reading.{early-refusal, Counted, Reading, OneReading, ReadsWhatShows};
 use crate::ReadRefusal;
 use crate::ReadRefusalFromContrast;
 use crate::contrasts::contrast;
@@ -27,9 +29,10 @@ fn admit<S: Scheme>(
     glass_bytes: usize,
     out_bytes: usize,
 ) -> Result<(u8, u8, u8), ReadRefusal>
-    ensures { λ r. ⌜ Cases r
-        (λ seen. Admitted (means (now (scheme .entry))) (set .bits) w «glass_bytes» «out_bytes» seen)
-        (λ why. early-refusal (means (now (scheme .entry))) (set .bits) w «glass_bytes» «out_bytes» ≡ Some why) ⌝ }
+    ensures refusal { λ r. ⌜ refusal-in r ≡ early-refusal (means (now (scheme .entry))) (set .bits) w «glass_bytes» «out_bytes» ⌝ }
+    ensures contrast { λ r. ⌜ made r (λ seen. contrast-of (means (now (scheme .entry))) (set .bits) ≡ Ok seen) ⌝ }
+    ensures levels { λ r. ⌜ made r Distinct ⌝ }
+    ensures long { λ r. ⌜ made r (λ _. «out_bytes» ≡ bytes-for w) ⌝ }
 {
     if w < 1 || w > MOST_PIXELS {
         return Err(ReadRefusal::Width);
@@ -87,7 +90,7 @@ pub fn read<S: Scheme>(
     out: &mut [u8],
 ) -> Result<(), ReadRefusal>
     ensures reads { λ r. ⌜ Reading (means (now (scheme .entry))) (set .bits) w (now (glass .entry)) (now (out .entry)) r (now (out .exit)) ⌝ }
-    ensures only { λ _. ⌜ ReadingsAgree ⌝ }
+    ensures determined { λ _. ⌜ OneReading ⌝ }
     ensures restores { λ _. ⌜ ReadsWhatShows ⌝ }
 {
     let (light, dark, m) = admit(scheme, set, w, glass.len(), out.len())?;
