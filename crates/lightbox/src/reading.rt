@@ -64,7 +64,7 @@ fn count_row(
     requires long { ⌜ length (now out) ≡ bytes-for w ⌝ }
     ensures { λ r. ⌜ Counted m light dark w (now (glass .entry)) r (now (out .exit)) ⌝ }
 {
-    out.fill(0);
+    out.fill(0); // all white, and the spare bits 0
     for c in 0..w {
         let blacks = count_block(glass, m, c);
         if blacks == dark {
