@@ -1,9 +1,9 @@
 -- Strips laid on a glass, byte by byte and bit by bit; a stack is black exactly where some strip is (`StacksAddUp`).
 use mathlib.Core.Path.{_≡_, refl, sym, ap, ap₂, _∙_}
-use mathlib.Core.Bool.{Bool, true, false, cond, _||_, _&&_, or-false, or-assoc}
+use mathlib.Core.Bool.{Bool, true, false, _||_, or-false, or-assoc}
 use mathlib.Core.List.{List, [], _∷_}
-use mathlib.Core.Logic.{_⊎_, inl, inr, _≢_}
-use Prim.Native.Nat.{ℕ, zero, suc, _+_, _-_, _*_, _/_, _%_, _≤_, _<_}
+use mathlib.Core.Logic.{inl, inr, _≢_}
+use Prim.Native.Nat.{ℕ, _+_, _-_, _/_, _%_, _≤_, _<_}
 use native.Mathlib.Omega.{arith}
 use lib.Bits.{bitOr}
 use lib.Dec.{eqb}
@@ -14,7 +14,7 @@ use Rattle.std.specs.shelf.Lists.{All, Has}
 use Rattle.std.proofs.shelf.Elements.{all-has, all-weaker, has-append-right, has-getD}
 use Rattle.std.proofs.shelf.Lanes.{length-zip2, getD-zip2}
 use Rattle.std.proofs.shelf.Lists.{getD-set-same, getD-set-other, ext-getD, length-replicate}
-use Rattle.std.proofs.shelf.Tests.{cases-bool, cases-eq, cases-lt, cond-true, eq-eqb, or-cases, or-left, or-right, true≢false}
+use Rattle.std.proofs.shelf.Tests.{cases-eq, cases-lt, cond-true, eq-eqb, or-cases, or-left, or-right, true≢false}
 use Rattle.schemes.specs.Bits.{bit}
 use Rattle.schemes.specs.PackedRows.{bit-at}
 use Rattle.schemes.proofs.BitFacts.{bit-or}

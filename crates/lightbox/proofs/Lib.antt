@@ -3,3 +3,4 @@ pub mod StackFacts
 pub mod ContrastFacts
 pub mod ReadFacts
 pub mod ReadingFacts
+pub mod WorkedFacts

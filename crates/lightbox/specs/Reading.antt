@@ -1,7 +1,7 @@
 -- What is read from a glass. Over each pixel the black squares are counted: as many as light is white, as many as dark is
 -- black, and any other count is refused.
 use mathlib.Core.Path.{_≡_}
-use mathlib.Core.Bool.{Bool, true, false, not, _&&_, _||_}
+use mathlib.Core.Bool.{Bool, false, not, _&&_, _||_}
 use mathlib.Core.List.{List, [], _∷_}
 use mathlib.Core.Logic.{_⊎_, _↔_}
 use Prim.Native.Nat.{ℕ, _<_, _≤_}
@@ -25,15 +25,18 @@ use Rattle.lightbox.specs.Refusals.{first-refusal}
 
 -- ---- before a square is counted
 
--- Why a reading is refused before a square is counted, if it is; by the lengths of the glass and the output.
-abbrev pub early-refusal : Meaning → (set w glass-bytes out-bytes : ℕ) → Option ReadRefusal
-early-refusal s set w glass-bytes out-bytes =
-    first-refusal (
+-- What is asked before a square is counted, and how it is refused; by the lengths of the glass and the output.
+abbrev pub early-checks : Meaning → (set w glass-bytes out-bytes : ℕ) → List (Bool × ReadRefusal)
+early-checks s set w glass-bytes out-bytes =
     (ltb w 1 || ltb most-pixels w, Width) ∷
     (ltb most-squares (strip-squares (s .m) w), Squares) ∷
     (not (s .qualified set), Contrast NotQualified) ∷
     (not (eqb glass-bytes (strip-size (s .m) w)), GlassLength) ∷
-    (not (eqb out-bytes (bytes-for w)), OutputLength) ∷ [])
+    (not (eqb out-bytes (bytes-for w)), OutputLength) ∷ []
+
+-- The refusal that is answered then, if one is.
+abbrev pub early-refusal : Meaning → (set w glass-bytes out-bytes : ℕ) → Option ReadRefusal
+early-refusal s set w glass-bytes out-bytes = first-refusal (early-checks s set w glass-bytes out-bytes)
 
 -- ---- the counts of w pixels with m squares each, and the two levels that they are held against
 
@@ -72,7 +75,7 @@ Reading s set w glass out r row =
     (Counted (s .m) (light s set) (dark s set) w glass r row)
     (λ why. (r ≡ Err why) × (row ≡ out))
 
--- Every reading has an answer and an output, and no others: those of `Reading` are determined.
+-- Of every scheme that keeps the laws: a reading has one answer and one output, and no others.
 abbrev pub OneReading : Type 0
 OneReading =
     (s : Meaning) → InRange s → Lawful s → (set w : ℕ) (glass out : List ℕ) →
@@ -89,7 +92,7 @@ Shows s set w glass secret = (c : ℕ) → c < w → glass-count (s .m) glass c 
 abbrev pub cleared : (w : ℕ) (row : List ℕ) → List ℕ
 cleared w row = packed (bytes-for w) (λ c. ltb c w && bit-at row c)
 
--- What a glass shows to a set is read from it, unless the reading is refused early.
+-- A reading that is not refused early gives the secret row that the glass shows to the set.
 abbrev pub ReadsWhatShows : Type 0
 ReadsWhatShows =
     (s : Meaning) (set w : ℕ) (glass out secret : List ℕ) (r : Result Unit ReadRefusal) (row : List ℕ) →

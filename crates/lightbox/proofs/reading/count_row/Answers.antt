@@ -1,9 +1,8 @@
 use mathlib.Core.Path.{_≡_, refl, sym, subst, ap, _∙_}
-use mathlib.Core.List.{List}
-use Prim.Native.Nat.{ℕ, _+_, _*_, _<_}
+use Prim.Native.Nat.{ℕ, _+_}
 use native.Mathlib.Omega.{arith}
 use lib.ListN.{length, replicate}
-use Rattle.schemes.specs.PackedRows.{bytes-for, Bytes}
+use Rattle.schemes.specs.PackedRows.{bytes-for}
 use Rattle.lightbox.proofs.ReadFacts.{ReadSoFar, none-read, black-read, white-read, all-read, neither-read}
 use Rattle.lightbox.proofs.reading.count_row.Needs as need
 use Rattle.lightbox.proofs.reading.count_row.Needs.{then-blacks-dark, else-blacks-dark·else-blacks-light}
