@@ -35,15 +35,15 @@ unfolding bit-at
 bit-at-past row k l = ap (λ (x : ℕ). bit x (7 - k % 8)) (getD-past row (k / 8) 0 l) ∙ bit-of-0 (7 - k % 8)
 
 -- a row of zeros has no bit
+pub byte-of-zeros : (n i : ℕ) → getD {A = ℕ} (replicate n 0) i 0 ≡ 0
+byte-of-zeros n i = elim (cases-lt i n) [
+  | inl l ↦ getD-replicate n i 0 0 l
+  | inr l ↦ getD-past (replicate n 0) i 0 (let e : length {A = ℕ} (replicate n 0) ≡ n = length-replicate n 0 in omega arith)
+]
+
 pub bit-at-zeros : (n k : ℕ) → bit-at (replicate n 0) k ≡ false
 unfolding bit-at
-bit-at-zeros n k = ap (λ (x : ℕ). bit x (7 - k % 8)) zero-byte ∙ bit-of-0 (7 - k % 8)
-  where
-    zero-byte : getD {A = ℕ} (replicate n 0) (k / 8) 0 ≡ 0
-    zero-byte = elim (cases-lt (k / 8) n) [
-      | inl l ↦ getD-replicate n (k / 8) 0 0 l
-      | inr l ↦ getD-past (replicate n 0) (k / 8) 0 (let e : length {A = ℕ} (replicate n 0) ≡ n = length-replicate n 0 in omega arith)
-    ]
+bit-at-zeros n k = ap (λ (x : ℕ). bit x (7 - k % 8)) (byte-of-zeros n (k / 8)) ∙ bit-of-0 (7 - k % 8)
 
 -- ---- packing
 

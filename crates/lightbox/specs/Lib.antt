@@ -1,0 +1,4 @@
+pub mod Contrasts
+pub mod Laying
+pub mod Reading
+pub mod Refusals
