@@ -1,11 +1,14 @@
 // Sets of keyholders, who are numbered from 1 on. The width of a set stands here alone, and as `most-keyholders` in the
 // specification.
 ghost use mathlib.Core.Path.{_≡_};
-ghost use Prim.Native.Nat.{min, _^_};
-ghost use lib.Dec.{ltb};
+ghost use mathlib.Core.Bool.{_&&_, _||_};
+ghost use Prim.Native.Nat.{ℕ, min, _^_};
+ghost use lib.Dec.{eqb, leb, ltb};
+ghost use Rattle.std.specs.Options.{isSome, Cases};
 ghost use Rattle.std.specs.Orderings.{Decides};
 ghost use Rattle.schemes.specs.Keyholders.{most-keyholders, member, Within, Empty, size, everyone};
 use crate::bits::has_bit;
+use crate::bits::with_bit;
 
 // A set names keyholders 1 to 8.
 pub const MOST_KEYHOLDERS: u8 = 8;
@@ -49,6 +52,18 @@ impl KeyholderSet {
             return false;
         }
         has_bit(self.bits, keyholder - 1)
+    }
+
+    // The set with this keyholder as well; none where the keyholder is outside 1 to 8.
+    pub fn with(self, keyholder: u8) -> Option<KeyholderSet>
+        ensures range { λ r. ⌜ isSome r ≡ (leb 1 keyholder && leb keyholder most-keyholders) ⌝ }
+        ensures members { λ r. ⌜ Cases r (Unit {0}) (λ set. (i : ℕ) → member (set .bits) i ≡ (eqb i keyholder || member (self .bits) i)) ⌝ }
+    {
+        if keyholder < 1 || keyholder > MOST_KEYHOLDERS {
+            return None;
+        }
+        let bits = with_bit(self.bits, keyholder - 1);
+        Some(KeyholderSet { bits })
     }
 
     // Whether every member of the other set is a member of this one.

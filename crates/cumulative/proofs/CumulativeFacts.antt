@@ -1,0 +1,125 @@
+-- The cumulative scheme: the four laws for every proper list of minimal sets, reduced to the rows of all of t, and the levels.
+use mathlib.Core.Path.{_≡_, refl, sym, ap, ap₂, subst, _∙_}
+use mathlib.Core.Logic.{_⊎_, inl, inr}
+use mathlib.Core.Bool.{Bool, true, false, cond, not, _&&_, and-false}
+use mathlib.Core.List.{List}
+use Prim.Native.Nat.{ℕ, zero, suc, _+_, _-_, _^_, _<_, _≤_}
+use native.Mathlib.Omega.{arith}
+use lib.Dec.{ltb, leb}
+use lib.ListN.{length, getD}
+use lib.Pow.{pow-pos, pow-mono}
+use Rattle.std.proofs.shelf.Tests.{lt-ltb, le-ltb, le-leb, lt-leb, ltb-true, cases-lt, cases-eq, true≢false, and-parts, and-from, and-left, and-right, not-from-true, not-from-false}
+use Rattle.schemes.specs.AllOf.{row, all-of}
+use Rattle.schemes.specs.Bits.{bit, any-below, count-below}
+use Rattle.schemes.specs.Keyholders.{most-keyholders, member, Within}
+use Rattle.schemes.specs.Laws.{most-columns, InRange, Renumbering, Lawful}
+use Rattle.schemes.specs.Meaning.{cell-of, light, dark}
+use Rattle.schemes.specs.declared.colour.Colour.{Colour}
+use Rattle.schemes.specs.declared.colour.Colour.the-variants.{White, Black}
+use Rattle.schemes.proofs.TestFacts.{any-true, any-false, any-same}
+use Rattle.schemes.proofs.AllOfFacts.{hide-row, white-0, black-all, white-rest, all-show, all-light, all-dark}
+use Rattle.schemes.proofs.TableFacts.{LawfulRows, row-stack, tabled-lawful, tabled-in-range, light-is, dark-is, cell-in, cell-at}
+use Rattle.cumulative.specs.Access.{qualifies, forbidden-sets}
+use Rattle.cumulative.specs.Cumulative.{all-row, film-row, cumulative, LevelsOfSets}
+use Rattle.cumulative.specs.Records.{lacks, in-record}
+use Rattle.cumulative.proofs.AccessFacts.{ProperSets, qualifies-more, covered, outside, everyone-qualifies, some-forbidden}
+
+-- ---- the rows of all of t
+
+-- Row q at a column, as all of t has it.
+all-row-is : (t : ℕ) (c : Colour) (q j : ℕ) → q < t → j < 2 ^ (t - 1) → all-row t c q j ≡ row (t - 1) c q j
+all-row-is t c q j p l = cell-in t (2 ^ (t - 1)) (row (t - 1) c) q j p l
+
+lacks-in : (F : List ℕ) (k q : ℕ) → q < length F → lacks F (suc k) q ≡ not (bit (getD F q 0) k)
+lacks-in F k q l = rw (lt-ltb q (length F) l) refl
+
+-- ---- what a set of keyholders has together
+
+module _ (n : ℕ) (minimal : List ℕ) (s : ProperSets n minimal) where
+  abbrev F : List ℕ
+  F = forbidden-sets n minimal
+
+  abbrev t : ℕ
+  t = length F
+
+  abbrev r : ℕ
+  r = t - 1
+
+  rows-are : suc r ≡ t
+  rows-are = omega (arith, some-forbidden n minimal s)
+
+  -- where all the rows are white, so is every stack
+  stack-white : (set : ℕ) (c : Colour) (j : ℕ) → j < 2 ^ r → ((q : ℕ) → row r c q j ≡ false) → row-stack n (film-row F c) set j ≡ false
+  unfolding film-row
+  stack-white set c j l h =
+      any-false n (λ k. bit set k && film-row F c k j)
+      (λ k b. and-right (bit set k) (film-row F c k j)
+      (any-false t (λ q. lacks F (suc k) q && all-row t c q j)
+      (λ q p. and-right (lacks F (suc k) q) (all-row t c q j) (all-row-is t c q j p l ∙ h q))))
+
+  -- where some row is black, so is the stack of a qualified set: somebody in it is not in that row's forbidden set
+  stack-black : (set : ℕ) → set < 2 ^ n → qualifies minimal set ≡ true → (c : Colour) (j : ℕ) → j < 2 ^ r
+      → (q : ℕ) × (q < suc r) × (row r c q j ≡ true) → row-stack n (film-row F c) set j ≡ true
+  unfolding film-row
+  stack-black set l e c j b u =
+      let p : u .0 < t = omega (arith, u .1, some-forbidden n minimal s) in
+      let v = outside n minimal set (u .0) l e p in
+      any-true n (λ k. bit set k && film-row F c k j) (v .0) (v .1)
+      (and-from (bit set (v .0)) (film-row F c (v .0) j) (v .2 .0)
+      (any-true t (λ i. lacks F (suc (v .0)) i && all-row t c i j) (u .0) p
+      (and-from (lacks F (suc (v .0)) (u .0)) (all-row t c (u .0) j)
+      (lacks-in F (v .0) (u .0) p ∙ not-from-false (bit (getD F (u .0) 0) (v .0)) (v .2 .1))
+      (all-row-is t c (u .0) j p b ∙ u .2))))
+
+  -- who is in forbidden set i has not row i, so that the renumbering without it serves him
+  row-hidden : (i : ℕ) (ren : Renumbering (2 ^ r)) → ((x y : ℕ) → (x ≡ i → ⊥) → x < suc r → row r Black x y ≡ row r White x (ren .to y))
+      → (k j : ℕ) → bit (getD F i 0) k ≡ true → j < 2 ^ r → film-row F Black k j ≡ film-row F White k (ren .to j)
+  unfolding film-row
+  row-hidden i ren h k j b l =
+      any-same t (λ q. lacks F (suc k) q && all-row t Black q j) (λ q. lacks F (suc k) q && all-row t White q (ren .to j))
+      (λ q p. go q p (cases-eq q i))
+    where
+      go : (q : ℕ) → q < t → (q ≡ i) ⊎ (q ≡ i → ⊥) → (lacks F (suc k) q && all-row t Black q j) ≡ (lacks F (suc k) q && all-row t White q (ren .to j))
+      go q p (inl e) = rw (lacks-in F k q p ∙ not-from-true (bit (getD F q 0) k) (ap (λ (x : ℕ). bit (getD F x 0) k) e ∙ b)) refl
+      go q p (inr e) =
+          ap (λ (x : Bool). lacks F (suc k) q && x)
+          (all-row-is t Black q j p l ∙ h q j e (omega (arith, some-forbidden n minimal s, p)) ∙ sym (all-row-is t White q (ren .to j) p (ren .to-below j l)))
+
+  -- ---- the laws
+
+  rows : LawfulRows n (2 ^ r) (film-row F) (qualifies minimal)
+  rows = record {
+    all-qualify = everyone-qualifies n minimal s;
+    more-qualify = λ a b p q w e. qualifies-more minimal a b w e;
+    shows = λ set l e.
+        all-show r (row-stack n (film-row F White) set) (row-stack n (film-row F Black) set)
+        (stack-white set White 0 (pow-pos r) (white-0 r))
+        (λ j b. stack-black set l e Black j b (black-all r j));
+    hides = λ set l e.
+        let u = covered n minimal set l e in
+        let v = hide-row r (u .0) (omega (arith, u .1)) in
+        (v .0, λ k j p m b. row-hidden (u .0) (v .0) (v .1) k j (u .2 (suc k) m) b);
+  }
+
+  pub cumulative-lawful : Lawful (cumulative n minimal)
+  cumulative-lawful = tabled-lawful n (2 ^ r) (film-row F) (qualifies minimal) rows
+
+  pub cumulative-in-range : 1 ≤ n → n ≤ most-keyholders → t ≤ most-keyholders → InRange (cumulative n minimal)
+  cumulative-in-range p q l = tabled-in-range n (2 ^ r) (film-row F) (qualifies minimal) p q (pow-pos r) (pow-mono {j = 7} (omega arith))
+
+  -- ---- the levels
+
+  pub cumulative-levels : LevelsOfSets n minimal
+  cumulative-levels = record {
+    light-level = λ set e.
+        let u = and-parts (ltb set (2 ^ n)) (qualifies minimal set) e in
+        let l = ltb-true set (2 ^ n) (u .0) in
+        light-is n (2 ^ r) (film-row F) (qualifies minimal) set
+        ∙ all-light r (row-stack n (film-row F White) set) (stack-white set White 0 (pow-pos r) (white-0 r))
+        (λ j p b. stack-black set l (u .1) White j b (white-rest r j p b));
+    dark-level = λ set e.
+        let u = and-parts (ltb set (2 ^ n)) (qualifies minimal set) e in
+        let l = ltb-true set (2 ^ n) (u .0) in
+        dark-is n (2 ^ r) (film-row F) (qualifies minimal) set
+        ∙ all-dark r (row-stack n (film-row F Black) set) (λ j b. stack-black set l (u .1) Black j b (black-all r j));
+  }

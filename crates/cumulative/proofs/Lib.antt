@@ -1,0 +1,4 @@
+pub mod PlaceFacts
+pub mod ListedFacts
+pub mod AccessFacts
+pub mod CumulativeFacts
