@@ -106,6 +106,15 @@ module _ (minimal : List ℕ) where
       let t = qualifies-decided a .0 e in
       qualifies-decided b .1 (t .0, t .1, within-trans (getD minimal (t .0) 0) a b (t .2) w)
 
+  -- sets with the same members qualify alike
+  pub qualifies-alike : (a b : ℕ) → ((i : ℕ) → member a i ≡ member b i) → qualifies minimal a ≡ qualifies minimal b
+  qualifies-alike a b h = go (qualifies minimal a) (qualifies minimal b) refl refl
+    where
+      go : (x y : Bool) → qualifies minimal a ≡ x → qualifies minimal b ≡ y → x ≡ y
+      go true y p q = sym (qualifies-more a b (λ i m. sym (h i) ∙ m) p) ∙ q
+      go false true p q = sym p ∙ qualifies-more b a (λ i m. h i ∙ m) q
+      go false false p q = refl
+
   pub unqualified : (set : ℕ) → qualifies minimal set ≡ false → Qualified minimal set → ⊥
   unqualified set e t = true≢false (sym (qualifies-decided set .1 t) ∙ e)
 

@@ -1,7 +1,8 @@
 -- The record of a keyholder: the numbers of the maximal forbidden sets that he is not in.
+use mathlib.Core.Path.{_≡_}
 use mathlib.Core.Bool.{Bool, not, _&&_}
 use mathlib.Core.List.{List, map}
-use Prim.Native.Nat.{ℕ, suc}
+use Prim.Native.Nat.{ℕ, suc, _<_}
 use lib.Dec.{leb, ltb}
 use lib.ListN.{length, getD}
 use Rattle.schemes.specs.Keyholders.{member}
@@ -22,3 +23,7 @@ noted rows q = member rows (suc q)
 -- The numbers of a table of records.
 abbrev pub record-numbers : List KeyholderRecord → List ℕ
 record-numbers records = map (λ entry. entry .rows .bits) records
+
+-- The table holds the record of each keyholder of 1 to n: that of keyholder k + 1 at place k.
+abbrev pub Kept : (n : ℕ) (forbidden table : List ℕ) → Type 0
+Kept n forbidden table = (k q : ℕ) → k < n → noted (getD table k 0) q ≡ lacks forbidden (suc k) q

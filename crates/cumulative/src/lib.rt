@@ -1,6 +1,8 @@
 // The cumulative scheme: the owners list the minimal sets of keyholders who may open together. Rests on the crate of
 // schemes, whose scheme all of n gives its table.
 
+mod findings;
 mod records;
+mod sets;
 
 pub use records::KeyholderRecord;
