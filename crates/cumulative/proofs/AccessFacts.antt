@@ -19,7 +19,7 @@ use Rattle.schemes.specs.Keyholders.{member, Within, Among, everyone}
 use Rattle.schemes.proofs.TestFacts.{any-true, any-false, any-find, any-none, look}
 use Rattle.schemes.proofs.BitFacts.{bit-of-0, bit-and, bit-or, bit-pow, bit-full, bit-past, bit-same}
 use Rattle.cumulative.specs.Access.{subset, qualifies, can-grow-to, maximal, those-below, forbidden-sets, Qualified, MaximalForbidden, IsForbiddenList}
-use Rattle.cumulative.specs.Making.{improper}
+use Rattle.cumulative.specs.Making.{improper, ProperSets}
 use Rattle.cumulative.proofs.ListedFacts.{listed, list-passes, list-rising}
 
 -- ---- sets within sets
@@ -278,11 +278,6 @@ module _ (n : ℕ) (minimal : List ℕ) where
           (qualifies-more minimal set f (within-from-bits set f (λ k b. keep none k b (cases-lt k n))) e)))
 
 -- ---- a proper list of minimal sets
-
--- there is one, and each has a member and none above n
-pub record ProperSets (n : ℕ) (minimal : List ℕ) : Type 0 where
-  pub some-set : 1 ≤ length minimal
-  pub proper : (i : ℕ) → i < length minimal → improper n minimal i ≡ false
 
 proper-set : (n : ℕ) (minimal : List ℕ) (i : ℕ) → improper n minimal i ≡ false → (getD minimal i 0 ≡ 0 → ⊥) × (getD minimal i 0 < 2 ^ n)
 unfolding improper

@@ -4,6 +4,7 @@ use mathlib.Core.Logic.{_⊎_, inl, inr}
 use mathlib.Core.Bool.{Bool, true, false, cond, not, _&&_, and-false}
 use mathlib.Core.List.{List}
 use Prim.Native.Nat.{ℕ, zero, suc, _+_, _-_, _^_, _<_, _≤_}
+use native.Mathlib.Numerals.{add-one}
 use native.Mathlib.Omega.{arith}
 use lib.Dec.{ltb, leb}
 use lib.ListN.{length, getD}
@@ -17,12 +18,14 @@ use Rattle.schemes.specs.Meaning.{cell-of, light, dark}
 use Rattle.schemes.specs.declared.colour.Colour.{Colour}
 use Rattle.schemes.specs.declared.colour.Colour.the-variants.{White, Black}
 use Rattle.schemes.proofs.TestFacts.{any-true, any-false, any-same}
+use Rattle.schemes.proofs.BitFacts.{bit-of-0}
 use Rattle.schemes.proofs.AllOfFacts.{hide-row, white-0, black-all, white-rest, all-show, all-light, all-dark}
-use Rattle.schemes.proofs.TableFacts.{LawfulRows, row-stack, tabled-lawful, tabled-in-range, light-is, dark-is, cell-in, cell-at}
+use Rattle.schemes.proofs.TableFacts.{LawfulRows, row-stack, tabled-lawful, tabled-in-range, light-is, dark-is, cell-in, keyholder-past, column-past}
 use Rattle.cumulative.specs.Access.{qualifies, forbidden-sets}
 use Rattle.cumulative.specs.Cumulative.{all-row, film-row, cumulative, LevelsOfSets}
-use Rattle.cumulative.specs.Records.{lacks, in-record}
-use Rattle.cumulative.proofs.AccessFacts.{ProperSets, qualifies-more, covered, outside, everyone-qualifies, some-forbidden}
+use Rattle.cumulative.specs.Records.{noted, lacks, in-record, Kept}
+use Rattle.cumulative.specs.Making.{ProperSets}
+use Rattle.cumulative.proofs.AccessFacts.{qualifies-more, covered, outside, everyone-qualifies, some-forbidden}
 
 -- ---- the rows of all of t
 
@@ -104,8 +107,8 @@ module _ (n : ℕ) (minimal : List ℕ) (s : ProperSets n minimal) where
   pub cumulative-lawful : Lawful (cumulative n minimal)
   cumulative-lawful = tabled-lawful n (2 ^ r) (film-row F) (qualifies minimal) rows
 
-  pub cumulative-in-range : 1 ≤ n → n ≤ most-keyholders → t ≤ most-keyholders → InRange (cumulative n minimal)
-  cumulative-in-range p q l = tabled-in-range n (2 ^ r) (film-row F) (qualifies minimal) p q (pow-pos r) (pow-mono {j = 7} (omega arith))
+  pub cumulative-in-range : t ≤ most-keyholders → InRange (cumulative n minimal)
+  cumulative-in-range l = tabled-in-range n (2 ^ r) (film-row F) (qualifies minimal) (s .least) (s .most) (pow-pos r) (pow-mono {j = 7} (omega arith))
 
   -- ---- the levels
 
@@ -123,3 +126,62 @@ module _ (n : ℕ) (minimal : List ℕ) (s : ProperSets n minimal) where
         dark-is n (2 ^ r) (film-row F) (qualifies minimal) set
         ∙ all-dark r (row-stack n (film-row F Black) set) (λ j b. stack-black set l (u .1) Black j b (black-all r j));
   }
+
+-- ---- the table that a scheme holds
+
+-- the record of anybody who is not a keyholder
+pub record-outside : (n : ℕ) (F : List ℕ) (i x q : ℕ) → (i < 1) ⊎ (n < i) → x ≡ 0 → noted x q ≡ in-record n F i q
+record-outside n F i x q h e = ap (λ (y : ℕ). noted y q) e ∙ bit-of-0 q ∙ sym (go h)
+  where
+    go : (i < 1) ⊎ (n < i) → in-record n F i q ≡ false
+    go (inl l) = ap (λ (b : Bool). (b && leb i n) && lacks F i q) (lt-leb 1 i l)
+    go (inr l) = ap (λ (b : Bool). b && lacks F i q) (and-right (leb 1 i) (leb i n) (lt-leb i n l))
+
+-- the record of keyholder i of 1 to n, which stands at place i - 1
+pub record-inside : (n : ℕ) (F table : List ℕ) (i q : ℕ) → Kept n F table → 1 ≤ i → i ≤ n → noted (getD table (i - 1) 0) q ≡ in-record n F i q
+record-inside n F table zero q h p l = absurd (omega arith)
+record-inside n F table (suc k) q h p l =
+    let e : suc k - 1 ≡ k = omega arith in
+    ap (λ (x : ℕ). noted (getD table x 0) q) e ∙ h k q (omega arith)
+    ∙ sym (ap (λ (b : Bool). b && lacks F (suc k) q) (and-from (leb 1 (suc k)) (leb (suc k) n) (le-leb 1 (suc k) p) (le-leb (suc k) n l)))
+
+-- ---- the cell of a keyholder, by his record
+
+-- what the loop over the rows asks
+abbrev pub has-row : (n : ℕ) (F : List ℕ) (c : Colour) (i j q : ℕ) → Bool
+has-row n F c i j q = in-record n F i q && all-row (length F) c q j
+
+pub cell-by-record : (n : ℕ) (minimal : List ℕ) (c : Colour) (i j : ℕ)
+    → any-below (length (forbidden-sets n minimal)) (has-row n (forbidden-sets n minimal) c i j) ≡ cumulative n minimal .cell c i j
+unfolding film-row
+cell-by-record n minimal c i j = go i (cases-lt j (2 ^ (length F - 1)))
+  where
+    F : List ℕ
+    F = forbidden-sets n minimal
+
+    -- past the last column all of t has no cell
+    past : (i : ℕ) → 2 ^ (length F - 1) ≤ j → any-below (length F) (has-row n F c i j) ≡ false
+    past i l = any-false (length F) (has-row n F c i j) (λ q p. and-right (in-record n F i q) (all-row (length F) c q j) (column-past (length F) (2 ^ (length F - 1)) (row (length F - 1) c) (suc q) j l))
+
+    none : (i : ℕ) → ((q : ℕ) → in-record n F i q ≡ false) → any-below (length F) (has-row n F c i j) ≡ false
+    none i h = any-false (length F) (has-row n F c i j) (λ q p. and-left (in-record n F i q) (all-row (length F) c q j) (h q))
+
+    inside : (k : ℕ) → k < n → j < 2 ^ (length F - 1) → any-below (length F) (has-row n F c (suc k) j) ≡ cumulative n minimal .cell c (suc k) j
+    inside k p l =
+        any-same (length F) (has-row n F c (suc k) j) (λ q. lacks F (suc k) q && all-row (length F) c q j)
+        (λ q b. ap (λ (x : Bool). (x && lacks F (suc k) q) && all-row (length F) c q j) (and-from (leb 1 (suc k)) (leb (suc k) n) (le-leb 1 (suc k) (omega arith)) (le-leb (suc k) n p)))
+        ∙ sym (cell-in n (2 ^ (length F - 1)) (film-row F c) k j p l)
+
+    go : (i : ℕ) → (j < 2 ^ (length F - 1)) ⊎ (2 ^ (length F - 1) ≤ j) → any-below (length F) (has-row n F c i j) ≡ cumulative n minimal .cell c i j
+    go zero d = none zero (λ q. ap (λ (b : Bool). (b && leb 0 n) && lacks F 0 q) (lt-leb 1 0 (omega arith)))
+    go (suc k) (inr l) = past (suc k) l ∙ sym (column-past n (2 ^ (length F - 1)) (film-row F c) (suc k) j l)
+    go (suc k) (inl l) = elim (cases-lt k n) [
+      | inl p ↦ inside k p l
+      | inr p ↦
+          none (suc k) (λ q. ap (λ (b : Bool). b && lacks F (suc k) q) (and-right (leb 1 (suc k)) (leb (suc k) n) (lt-leb (suc k) n (omega arith))))
+          ∙ sym (keyholder-past n (2 ^ (length F - 1)) (film-row F c) (suc k) j (omega arith))
+    ]
+
+-- what all of t answers for row q
+pub row-asked : (t : ℕ) (F : List ℕ) (c : Colour) (j q : ℕ) (answer : Bool) → length F ≡ t → answer ≡ all-of t .cell c (q + 1) j → all-row (length F) c q j ≡ answer
+row-asked t F c j q answer e h = ap (λ (x : ℕ). all-row x c q j) e ∙ ap (λ (x : ℕ). all-of t .cell c x j) (sym (add-one q)) ∙ sym h

@@ -37,8 +37,8 @@ module _ (n : ℕ) (test : ℕ → Bool) where
     abbrev L : List ℕ
     L = those-below b test
 
-    counted : length L ≡ count
-    counted = sym (ap length (h .listed)) ∙ length-map (take count sets) (λ (set : KeyholderSet). set .bits) ∙ length-take-le count sets (omega (arith, h .few, h .room))
+    pub found-counted : length L ≡ count
+    found-counted = sym (ap length (h .listed)) ∙ length-map (take count sets) (λ (set : KeyholderSet). set .bits) ∙ length-take-le count sets (omega (arith, h .few, h .room))
 
     pub found-yes : (new : KeyholderSet) (table′ : List ℕ) → new .bits ≡ b → test b ≡ true → (count ≡ most-forbidden → ⊥)
         → ((k p : ℕ) → k < n → noted (getD table′ k 0) p ≡ ((eqb p count && not (member (new .bits) (suc k))) || noted (getD table k 0) p))
@@ -55,7 +55,7 @@ module _ (n : ℕ) (test : ℕ → Bool) where
       kept = λ k q l.
           noting k q l
           ∙ ap (λ (x : ℕ). (eqb q count && not (bit x k)) || noted (getD table k 0) q) is
-          ∙ ap (λ (x : ℕ). (eqb q x && not (bit b k)) || noted (getD table k 0) q) (sym counted)
+          ∙ ap (λ (x : ℕ). (eqb q x && not (bit b k)) || noted (getD table k 0) q) (sym found-counted)
           ∙ ap (λ (x : Bool). (eqb q (length L) && not (bit b k)) || x) (h .kept k q l)
           ∙ sym (lacks-push L b k q)
           ∙ ap (λ (xs : List ℕ). lacks xs (suc k) q) (sym (list-yes test b passes));
@@ -71,4 +71,4 @@ module _ (n : ℕ) (test : ℕ → Bool) where
 
     pub found-ninth : (end : ℕ) → b < end → test b ≡ true → count ≡ most-forbidden → most-forbidden < length (those-below end test)
     found-ninth end l passes full =
-        omega (arith, counted, ap length (list-yes test b passes), length-push L b, list-more test (b + 1) end (omega arith))
+        omega (arith, found-counted, ap length (list-yes test b passes), length-push L b, list-more test (b + 1) end (omega arith))

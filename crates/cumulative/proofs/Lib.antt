@@ -5,3 +5,5 @@ pub mod CumulativeFacts
 pub mod SetsFacts
 pub mod RecordFacts
 pub mod FindingFacts
+pub mod MakingFacts
+pub mod SchemeFacts

@@ -8,7 +8,7 @@ use native.Mathlib.Numerals.{add-one}
 use native.Mathlib.Omega.{arith}
 use lib.Dec.{eqb, ltb}
 use lib.ListN.{length, getD, set as put, replicate}
-use Rattle.std.proofs.shelf.Lists.{getD-map, length-map, map-set, length-set, getD-set-same, getD-set-other, getD-append-left, getD-push, length-push, getD-replicate, getD-past}
+use Rattle.std.proofs.shelf.Lists.{map-set, length-set, getD-set-same, getD-set-other, getD-append-left, getD-push, length-push, getD-replicate, getD-past}
 use Rattle.std.proofs.shelf.Tests.{cases-eq, cases-lt, eq-eqb, ne-eqb, lt-ltb, le-ltb}
 use Rattle.schemes.specs.Bits.{bit}
 use Rattle.schemes.specs.Keyholders.{member}
@@ -30,8 +30,10 @@ blank = record { rows = record { bits = 0 } }
 number-put : (records : List KeyholderRecord) (k : ℕ) (after : KeyholderRecord) → record-numbers (put records k after) ≡ put (record-numbers records) k (after .rows .bits)
 number-put records k after = map-set (λ (entry : KeyholderRecord). entry .rows .bits) records k after
 
-number-at : (records : List KeyholderRecord) (k : ℕ) → k < length records → getD (record-numbers records) k 0 ≡ getD records k blank .rows .bits
-number-at records k l = getD-map (λ (entry : KeyholderRecord). entry .rows .bits) records k blank 0 l
+pub number-at : (records : List KeyholderRecord) (k : ℕ) → getD (record-numbers records) k 0 ≡ getD records k blank .rows .bits
+number-at [] k = refl
+number-at (x ∷ records) zero = refl
+number-at (x ∷ records) (suc k) = number-at records k
 
 nothing : (a b c : Bool) → b ≡ true → ((a && not b) || c) ≡ c
 nothing true b c e = ap (λ (x : Bool). not x || c) e
@@ -76,7 +78,7 @@ module _ (set q : ℕ) (before : List ℕ) (k : ℕ) where
       (λ p.
       ap (λ (x : ℕ). noted x p) (ap (λ (x : List ℕ). getD x k 0) numbers-are ∙ getD-set-same table k (after .rows .bits) 0 (omega (arith, inv .long)))
       ∙ h p
-      ∙ ap (λ (x : ℕ). eqb p q || noted x p) (sym (number-at records k (omega (arith, inv .long, length-map records (λ (entry : KeyholderRecord). entry .rows .bits)))) ∙ inv .rest k (omega arith))
+      ∙ ap (λ (x : ℕ). eqb p q || noted x p) (sym (number-at records k) ∙ inv .rest k (omega arith))
       ∙ sym (something (eqb p q) (member set (suc k)) (noted (getD before k 0) p) (ap (member set) (sym (add-one k)) ∙ sym m)))
       (λ i e. ap (λ (x : List ℕ). getD x i 0) numbers-are ∙ getD-set-other table k i (after .rows .bits) 0 e)
     where

@@ -9,7 +9,7 @@ use native.Mathlib.Omega.{arith}
 use lib.Bits.{bitOr}
 use lib.Dec.{eqb, ltb}
 use lib.ListN.{length, getD}
-use Rattle.std.specs.Options.{isSome, orOther}
+use Rattle.std.specs.Options.{isSome}
 use Rattle.std.specs.Orderings.{Decides}
 use Rattle.std.specs.declared.option.Option.{Option}
 use Rattle.std.specs.declared.option.Option.the-variants.{Some, None}
@@ -22,7 +22,7 @@ use Rattle.schemes.specs.declared.keyholders.KeyholderSet.{KeyholderSet}
 use Rattle.schemes.proofs.TestFacts.{any-true, any-false}
 use Rattle.cumulative.specs.Access.{numbers, subset, qualifies}
 use Rattle.cumulative.specs.Making.{improper, redundant, first-below, first-place}
-use Rattle.cumulative.proofs.PlaceFacts.{first-none, first-found}
+use Rattle.cumulative.proofs.PlaceFacts.{first-none, first-found, some-first}
 use Rattle.schemes.specs.Bits.{bit}
 use Rattle.schemes.specs.Keyholders.{member, most-keyholders, Empty}
 use Rattle.schemes.proofs.KeyholderFacts.{member-with, empty-decided}
@@ -45,15 +45,6 @@ place-found sets test i l e h = sym (first-found (length (numbers sets)) test i 
 pub place-none : (sets : List KeyholderSet) (test : ℕ → Bool) (i : ℕ) → length sets ≤ i → ((k : ℕ) → k < i → test k ≡ false)
     → None ≡ first-place (numbers sets) test
 place-none sets test i l h = sym (first-none (length (numbers sets)) test (λ k b. h k (omega (arith, numbers-length sets))))
-
-some-first : (n : ℕ) (test : ℕ → Bool) → isSome (first-below n test) ≡ any-below n test
-some-first zero test = refl
-some-first (suc n) test = go (first-below n test) (any-below n test) (test n) (some-first n test)
-  where
-    go : (o : Option ℕ) (a b : Bool) → isSome o ≡ a → isSome (orOther o (cond b (Some n) None)) ≡ (a || b)
-    go (Some x) a b e = ap (λ (y : Bool). y || b) e
-    go None a true e = ap (λ (y : Bool). y || true) e
-    go None a false e = ap (λ (y : Bool). y || false) e
 
 -- a set is qualified if some place has a minimal set within it
 pub first-qualifies : (minimal : List ℕ) (set : ℕ) → isSome (first-place minimal (λ i. subset (getD minimal i 0) set)) ≡ qualifies minimal set

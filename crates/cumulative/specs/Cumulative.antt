@@ -5,11 +5,13 @@ use mathlib.Core.Bool.{Bool, true, _&&_}
 use mathlib.Core.List.{List}
 use Prim.Native.Nat.{ℕ, suc, _-_, _^_}
 use lib.ListN.{length}
+use Rattle.std.specs.Orderings.{Decides}
 use Rattle.schemes.specs.AllOf.{all-of}
 use Rattle.schemes.specs.Bits.{any-below}
+use Rattle.schemes.specs.Keyholders.{Among}
 use Rattle.schemes.specs.Meaning.{Meaning, tabled, light, dark}
 use Rattle.schemes.specs.declared.colour.Colour.{Colour}
-use Rattle.cumulative.specs.Access.{qualifies, forbidden-sets}
+use Rattle.cumulative.specs.Access.{qualifies, forbidden-sets, Qualified}
 use Rattle.cumulative.specs.Records.{lacks}
 
 -- Row q is that of keyholder q + 1 in the table of all of t.
@@ -31,3 +33,7 @@ cumulative n minimal = cumulative-with n minimal (forbidden-sets n minimal)
 pub record LevelsOfSets (n : ℕ) (minimal : List ℕ) : Type 0 where
   pub light-level : (set : ℕ) → cumulative n minimal .qualified set ≡ true → light (cumulative n minimal) set ≡ cumulative n minimal .m - 1
   pub dark-level : (set : ℕ) → cumulative n minimal .qualified set ≡ true → dark (cumulative n minimal) set ≡ cumulative n minimal .m
+
+-- The sets of keyholders 1 to n that contain a minimal set are qualified, and no others.
+abbrev pub Opens-to-qualified : (n : ℕ) (minimal : List ℕ) → Type 0
+Opens-to-qualified n minimal = (set : ℕ) → Decides (cumulative n minimal .qualified set) (Among n set × Qualified minimal set)

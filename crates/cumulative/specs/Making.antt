@@ -1,9 +1,9 @@
 -- Making a scheme of sets: which refusal applies, if any, to a number of keyholders and a list of minimal sets.
 use mathlib.Core.Path.{_≡_}
 use mathlib.Core.Logic.{_⊎_}
-use mathlib.Core.Bool.{Bool, cond, not, _&&_, _||_}
+use mathlib.Core.Bool.{Bool, false, cond, not, _&&_, _||_}
 use mathlib.Core.List.{List, [], _∷_}
-use Prim.Native.Nat.{ℕ, zero, suc, _^_}
+use Prim.Native.Nat.{ℕ, zero, suc, _^_, _<_, _≤_}
 use lib.Dec.{eqb, ltb}
 use lib.ListN.{length, getD}
 use Rattle.std.specs.Options.{orOther, mapped}
@@ -47,6 +47,10 @@ first-refusal (answer ∷ rest) = orOther answer (first-refusal rest)
 abbrev pub when : Bool → SchemeRefusal → Option SchemeRefusal
 when test why = cond test (Some why) None
 
+-- The refusal of too many maximal forbidden sets, which is the last.
+abbrev pub forbidden-refusal : (n : ℕ) (sets : List ℕ) → Option SchemeRefusal
+forbidden-refusal n sets = when (ltb most-forbidden (length (forbidden-sets n sets))) ForbiddenSets
+
 -- Refusals 7 to 11, in this order.
 abbrev pub making-refusal : (n : ℕ) (sets : List ℕ) → Option SchemeRefusal
 making-refusal n sets =
@@ -55,9 +59,18 @@ making-refusal n sets =
     ∷ when (ltb (length sets) 1 || ltb most-sets (length sets)) ListLength
     ∷ mapped Members (first-place sets (improper n sets))
     ∷ mapped Redundant (first-place sets (redundant sets))
-    ∷ when (ltb most-forbidden (length (forbidden-sets n sets))) ForbiddenSets
+    ∷ forbidden-refusal n sets
     ∷ [])
 
 -- What making answers: the refusal that the rules give, or want of memory where the rules give none.
 abbrev pub By-rules-or-no-memory : (answer ruled : Option SchemeRefusal) → Type 0
 By-rules-or-no-memory answer ruled = (answer ≡ ruled) ⊎ ((answer ≡ Some Memory) × (ruled ≡ None))
+
+-- ---- what the checks leave
+
+-- There are 1 to 8 keyholders and a minimal set; each set has a member, and none above n.
+pub record ProperSets (n : ℕ) (sets : List ℕ) : Type 0 where
+  pub least : 1 ≤ n
+  pub most : n ≤ most-keyholders
+  pub some-set : 1 ≤ length sets
+  pub proper : (i : ℕ) → i < length sets → improper n sets i ≡ false

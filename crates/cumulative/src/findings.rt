@@ -27,7 +27,7 @@ pub struct Findings {
 // The maximal forbidden sets of keyholders 1 to n in rising order, with the records; none where there are more than 8.
 pub fn find_forbidden(n: u8, minimal: &[KeyholderSet]) -> Option<Findings>
     requires { ⌜ n ≤ most-keyholders ⌝ }
-    ensures few { λ r. ⌜ Cases r (most-forbidden < length (forbidden-sets n (numbers (now (minimal .entry))))) (λ found. found .count ≤ most-forbidden) ⌝ }
+    ensures count { λ r. ⌜ Cases r (most-forbidden < length (forbidden-sets n (numbers (now (minimal .entry))))) (λ found. (length (forbidden-sets n (numbers (now (minimal .entry)))) ≡ found .count) × (found .count ≤ most-forbidden)) ⌝ }
     ensures sets { λ r. ⌜ Cases r (Unit {0}) (λ found. numbers (take (found .count) (found .sets)) ≡ forbidden-sets n (numbers (now (minimal .entry)))) ⌝ }
     ensures records { λ r. ⌜ Cases r (Unit {0}) (λ found. Kept n (forbidden-sets n (numbers (now (minimal .entry)))) (record-numbers (found .records))) ⌝ }
 {

@@ -5,7 +5,7 @@ use Rattle.std.proofs.shelf.Bits.{one-shl}
 use Rattle.cumulative.specs.Access.{numbers, maximal}
 use Rattle.cumulative.specs.Records.{record-numbers}
 use Rattle.cumulative.specs.declared.findings.Findings.{Findings}
-use Rattle.cumulative.proofs.FindingFacts.{FoundBelow, found-none, found-yes, found-no, found-ninth}
+use Rattle.cumulative.proofs.FindingFacts.{FoundBelow, found-none, found-yes, found-no, found-ninth, found-counted}
 use Rattle.cumulative.proofs.findings.find_forbidden.Needs as need
 use Rattle.cumulative.proofs.findings.find_forbidden.Needs.{then-is-maximal·else-found-eq-MOST-FORBIDDEN, else-is-maximal}
 
@@ -18,7 +18,7 @@ returns-then-found-eq-MOST-FORBIDDEN c =
     let test = maximal n (numbers (c .args .minimal .now)) in
     let below : c .loop-number .number < 2 ^ n = omega (arith, one-shl n 16 (omega arith)) in
     record {
-      few = found-ninth n test (c .loop-number .number) (c .loop-number .found .count) (c .loop-number .found .sets) (record-numbers (c .loop-number .found .records)) (c .loop-number .inv)
+      count = found-ninth n test (c .loop-number .number) (c .loop-number .found .count) (c .loop-number .found .sets) (record-numbers (c .loop-number .found .records)) (c .loop-number .inv)
           (2 ^ n) below (sym (ap test (c .from-bits-set .ensures)) ∙ sym (c .if-is-maximal .ensures tt)) (c .if-found-eq-MOST-FORBIDDEN .taken);
       sets = tt;
       records = tt;
@@ -48,4 +48,4 @@ returns c =
     let end : c .loop-number .number ≡ 2 ^ n = omega (arith, one-shl n 16 (omega arith)) in
     let all : FoundBelow n test (2 ^ n) (c .loop-number .found .count) (c .loop-number .found .sets) (record-numbers (c .loop-number .found .records)) =
     subst (λ (b : ℕ). FoundBelow n test b (c .loop-number .found .count) (c .loop-number .found .sets) (record-numbers (c .loop-number .found .records))) end (c .loop-number .inv) in
-    record { few = all .few; sets = all .listed; records = all .kept }
+    record { count = (found-counted n test (2 ^ n) (c .loop-number .found .count) (c .loop-number .found .sets) (record-numbers (c .loop-number .found .records)) all, all .few); sets = all .listed; records = all .kept }
