@@ -10,6 +10,7 @@ use lib.Dec.{ltb, leb}
 use lib.ListN.{length, getD}
 use lib.Pow.{pow-pos, pow-mono}
 use Rattle.std.proofs.shelf.Tests.{lt-ltb, le-ltb, le-leb, lt-leb, ltb-true, cases-lt, cases-eq, true≢false, and-parts, and-from, and-left, and-right, not-from-true, not-from-false}
+use Rattle.std.proofs.shelf.Ways.{decides-and}
 use Rattle.schemes.specs.AllOf.{row, all-of}
 use Rattle.schemes.specs.Bits.{bit, any-below, count-below}
 use Rattle.schemes.specs.Keyholders.{most-keyholders, member, Within}
@@ -22,10 +23,10 @@ use Rattle.schemes.proofs.BitFacts.{bit-of-0}
 use Rattle.schemes.proofs.AllOfFacts.{hide-row, white-0, black-all, white-rest, all-show, all-light, all-dark}
 use Rattle.schemes.proofs.TableFacts.{LawfulRows, row-stack, tabled-lawful, tabled-in-range, light-is, dark-is, cell-in, keyholder-past, column-past}
 use Rattle.cumulative.specs.Access.{qualifies, forbidden-sets}
-use Rattle.cumulative.specs.Cumulative.{all-row, film-row, cumulative, LevelsOfSets}
+use Rattle.cumulative.specs.Cumulative.{all-row, film-row, cumulative, LevelsOfSets, Opens-to-qualified}
 use Rattle.cumulative.specs.Records.{noted, lacks, in-record, Kept}
 use Rattle.cumulative.specs.Making.{ProperSets}
-use Rattle.cumulative.proofs.AccessFacts.{qualifies-more, covered, outside, everyone-qualifies, some-forbidden}
+use Rattle.cumulative.proofs.AccessFacts.{qualifies-decided, qualifies-more, covered, outside, everyone-qualifies, some-forbidden}
 
 -- ---- the rows of all of t
 
@@ -126,6 +127,12 @@ module _ (n : ℕ) (minimal : List ℕ) (s : ProperSets n minimal) where
         dark-is n (2 ^ r) (film-row F) (qualifies minimal) set
         ∙ all-dark r (row-stack n (film-row F Black) set) (λ j b. stack-black set l (u .1) Black j b (black-all r j));
   }
+
+-- ---- who is qualified, in words
+
+pub cumulative-access : (n : ℕ) (minimal : List ℕ) → Opens-to-qualified n minimal
+cumulative-access n minimal set =
+    decides-and (ltb set (2 ^ n)) (qualifies minimal set) (ltb-true set (2 ^ n), lt-ltb set (2 ^ n)) (qualifies-decided minimal set)
 
 -- ---- the table that a scheme holds
 

@@ -79,6 +79,7 @@ impl Cumulative {
         ensures refusal { λ r. ⌜ By-rules-or-no-memory (refusal-in r) (making-refusal n (numbers (now (sets .entry)))) ⌝ }
         ensures unchanged { λ r. ⌜ refused r (λ _. now (self .exit) ≡ now (self .entry)) ⌝ }
         ensures made { λ r. ⌜ made r (λ _. (now (self .exit) .n ≡ n) × (vec-items (now (self .exit) .minimal) ≡ now (sets .entry))) ⌝ }
+        ensures access { λ r. ⌜ made r (λ _. Opens-to-qualified n (numbers (now (sets .entry)))) ⌝ }
         ensures levels { λ r. ⌜ made r (λ _. LevelsOfSets n (numbers (now (sets .entry)))) ⌝ }
     {
         check_list(n, sets)?;

@@ -10,3 +10,6 @@ mod sets;
 pub use cumulative::Cumulative;
 pub use cumulative::CumulativeScheme;
 pub use records::KeyholderRecord;
+
+#[cfg(test)]
+mod tests;

@@ -5,7 +5,7 @@ use native.Mathlib.Omega.{arith}
 use lib.ListN.{length}
 use Rattle.cumulative.specs.Access.{numbers, forbidden-sets}
 use Rattle.cumulative.proofs.AccessFacts.{some-forbidden}
-use Rattle.cumulative.proofs.CumulativeFacts.{cumulative-levels}
+use Rattle.cumulative.proofs.CumulativeFacts.{cumulative-access, cumulative-levels}
 use Rattle.cumulative.proofs.MakingFacts.{passed-forbidden, table-made}
 use Rattle.cumulative.proofs.cumulative.Cumulative.make.Needs as need
 
@@ -24,6 +24,7 @@ returns-in-rest-from-slice c =
       refusal = inr (refl, c .in-Continue-check-list .ensures tt .refusal ∙ passed-forbidden (c .args .n) sets (omega (arith, t .0, t .1)));
       unchanged = refl;
       made = tt;
+      access = tt;
       levels = tt;
     }
 
@@ -35,5 +36,6 @@ returns c =
       refusal = inl (sym (c .in-Continue-check-list .ensures tt .refusal ∙ passed-forbidden (c .args .n) sets (omega (arith, t .0, t .1))));
       unchanged = tt;
       made = (refl, c .in-Ok .ensures tt .made .0);
+      access = cumulative-access (c .args .n) sets;
       levels = cumulative-levels (c .args .n) sets (c .in-Continue-check-list .ensures tt .proper);
     }
