@@ -1,21 +1,21 @@
 -- Sets of keyholders, by the tests on their numbers that the code makes.
 use mathlib.Core.Path.{_≡_, refl, sym, ap, ap₂, subst, _∙_}
 use mathlib.Core.Logic.{_⊎_, inl, inr}
-use mathlib.Core.Bool.{Bool, true, false, _&&_}
+use mathlib.Core.Bool.{Bool, true, false, _&&_, _||_}
 use Prim.Native.Nat.{ℕ, zero, suc, _+_, _-_, _^_, _<_, _≤_, min}
 use native.Mathlib.Numerals.{add-one}
 use native.Mathlib.Omega.{arith}
-use lib.Bits.{bitAnd, and-lt}
+use lib.Bits.{bitAnd, bitOr, and-lt}
 use lib.Count.{ones}
-use lib.Dec.{eqb, ltb, leb}
+use lib.Dec.{eqb, ltb, leb, eqb·suc-suc}
 use lib.Pow.{pow-pos, pow-mono}
 use Rattle.std.specs.Orderings.{Decides}
-use Rattle.std.proofs.shelf.Tests.{cases-lt, true≢false, eqb-true, eq-eqb, and-parts, and-from, and-left, and-right}
+use Rattle.std.proofs.shelf.Tests.{cases-lt, true≢false, eqb-true, eq-eqb, ne-eqb, and-parts, and-from, and-left, and-right}
 use Rattle.std.proofs.shelf.Ways.{tells}
 use Rattle.schemes.specs.Bits.{bit, any-below, count-below}
 use Rattle.schemes.specs.Keyholders.{most-keyholders, member, Within, Empty, members-among, size, everyone}
 use Rattle.schemes.proofs.TestFacts.{any-true, any-next, count-none, count-add}
-use Rattle.schemes.proofs.BitFacts.{bit-of-0, bit-and, bit-past, bit-same, ones-counted}
+use Rattle.schemes.proofs.BitFacts.{bit-of-0, bit-and, bit-or, bit-pow, bit-past, bit-same, ones-counted}
 
 -- a member, by the bit below its number
 pub member-bit : (set i : ℕ) → 1 ≤ i → bit set (i - 1) ≡ member set i
@@ -31,6 +31,20 @@ member-above set (suc k) b l = bit-past most-keyholders set k b (omega arith)
 pub member-none : (set i : ℕ) → i < 1 → member set i ≡ false
 member-none set zero l = refl
 member-none set (suc k) l = absurd (omega arith)
+
+-- one more member
+pub member-with : (set i j : ℕ) → 1 ≤ i → member (bitOr set (2 ^ (i - 1))) j ≡ (eqb j i || member set j)
+member-with set zero j l = absurd (omega arith)
+member-with set (suc k) zero l = rw (ne-eqb 0 (suc k) (λ e. omega arith)) refl
+member-with set (suc k) (suc j) l =
+    let e : suc k - 1 ≡ k = omega arith in
+    rw e (bit-or set (2 ^ k) j ∙ ap (λ (b : Bool). bit set j || b) (bit-pow k j) ∙ or-swap (bit set j) (eqb j k) ∙ ap (λ (b : Bool). b || bit set j) (sym (eqb·suc-suc j k)))
+  where
+    or-swap : (a b : Bool) → (a || b) ≡ (b || a)
+    or-swap true true = refl
+    or-swap true false = refl
+    or-swap false true = refl
+    or-swap false false = refl
 
 -- containing, by the bits that are in both
 pub within-decided : (a b : ℕ) → a < 2 ^ most-keyholders → b < 2 ^ most-keyholders → Decides (eqb (bitAnd a b) a) (Within a b)

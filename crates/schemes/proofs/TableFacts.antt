@@ -27,11 +27,11 @@ cell-at n m row (suc k) j p q l =
     let e : suc k - 1 ≡ k = omega arith in
     rw e (cell-in n m row k j (omega arith) l)
 
-keyholder-past : (n m : ℕ) (row : ℕ → ℕ → Bool) (i j : ℕ) → n < i → cell-of n m row i j ≡ false
+pub keyholder-past : (n m : ℕ) (row : ℕ → ℕ → Bool) (i j : ℕ) → n < i → cell-of n m row i j ≡ false
 keyholder-past n m row zero j h = refl
 keyholder-past n m row (suc k) j h = rw (le-ltb k n (omega arith)) refl
 
-column-past : (n m : ℕ) (row : ℕ → ℕ → Bool) (i j : ℕ) → m ≤ j → cell-of n m row i j ≡ false
+pub column-past : (n m : ℕ) (row : ℕ → ℕ → Bool) (i j : ℕ) → m ≤ j → cell-of n m row i j ≡ false
 column-past n m row zero j h = refl
 column-past n m row (suc k) j h = rw (le-ltb j m h, and-false (ltb k n)) refl
 

@@ -1,11 +1,14 @@
 // Sets of keyholders, who are numbered from 1 on. The width of a set stands here alone, and as `most-keyholders` in the
 // specification.
 ghost use mathlib.Core.Path.{_≡_};
-ghost use Prim.Native.Nat.{min, _^_};
-ghost use lib.Dec.{ltb};
+ghost use mathlib.Core.Bool.{_&&_, _||_};
+ghost use Prim.Native.Nat.{ℕ, min, _^_, _≤_};
+ghost use lib.Dec.{eqb, leb, ltb};
+ghost use Rattle.std.specs.Options.{isSome, Cases};
 ghost use Rattle.std.specs.Orderings.{Decides};
 ghost use Rattle.schemes.specs.Keyholders.{most-keyholders, member, Within, Empty, size, everyone};
 use crate::bits::has_bit;
+use crate::bits::with_bit;
 use std::fmt;
 
 // A set names keyholders 1 to 8.
@@ -49,6 +52,19 @@ impl KeyholderSet {
         is_member(self.bits, keyholder)
     }
 
+    // The set with this keyholder as well; none where the keyholder is outside 1 to 8.
+    pub fn with(self, keyholder: u8) -> Option<KeyholderSet>
+        ensures range { λ r. ⌜ isSome r ≡ (leb 1 keyholder && leb keyholder most-keyholders) ⌝ }
+        ensures members { λ r. ⌜ Cases r (Unit {0}) (λ set. (i : ℕ) → member (set .bits) i ≡ (eqb i keyholder || member (self .bits) i)) ⌝ }
+    {
+        if keyholder < 1 || keyholder > MOST_KEYHOLDERS {
+            return None;
+        }
+        Some(KeyholderSet {
+            bits: with_member(self.bits, keyholder),
+        })
+    }
+
     // Whether every member of the other set is a member of this one.
     pub fn contains(self, other: KeyholderSet) -> bool
         ensures { λ r. ⌜ Decides r (Within (other .bits) (self .bits)) ⌝ }
@@ -87,6 +103,13 @@ fn is_member(bits: u8, keyholder: u8) -> bool
         return false;
     }
     has_bit(bits, keyholder - 1)
+}
+
+fn with_member(bits: u8, keyholder: u8) -> u8
+    requires { ⌜ 1 ≤ keyholder ⌝ ∗ ⌜ keyholder ≤ most-keyholders ⌝ }
+    ensures { λ r. ⌜ ((i : ℕ) → member r i ≡ (eqb i keyholder || member bits i)) ⌝ }
+{
+    with_bit(bits, keyholder - 1)
 }
 
 fn are_within(a: u8, b: u8) -> bool
