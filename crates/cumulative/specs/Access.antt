@@ -23,7 +23,7 @@ subset a b = eqb (bitAnd a b) a
 unfoldable pub qualifies : (minimal : List ℕ) (set : ℕ) → Bool
 qualifies minimal set = any-below (length minimal) (λ i. subset (getD minimal i 0) set)
 
--- The set is forbidden, and the other one is larger and forbidden too.
+-- The other set is larger than the set, and still forbidden.
 abbrev pub can-grow-to : (minimal : List ℕ) (set other : ℕ) → Bool
 can-grow-to minimal set other = (subset set other && not (eqb other set)) && not (qualifies minimal other)
 

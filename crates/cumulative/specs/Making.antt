@@ -16,7 +16,7 @@ use Rattle.schemes.specs.declared.refusals.SchemeRefusal.{SchemeRefusal}
 use Rattle.schemes.specs.declared.refusals.SchemeRefusal.the-variants.{ListLength, Members, Redundant, ForbiddenSets, Memory}
 use Rattle.cumulative.specs.Access.{subset, forbidden-sets}
 
--- A list has at most so many minimal sets, and a scheme at most so many maximal forbidden ones.
+-- A list has at most so many minimal sets, and a scheme at most so many maximal forbidden sets.
 abbrev pub most-sets : ℕ
 most-sets = 16
 
@@ -31,11 +31,12 @@ improper n sets i = eqb (getD sets i 0) 0 || not (ltb (getD sets i 0) (2 ^ n))
 unfoldable pub redundant : (sets : List ℕ) (place : ℕ) → Bool
 redundant sets i = any-below (length sets) (λ j. not (eqb j i) && subset (getD sets j 0) (getD sets i 0))
 
--- The first place of the list whose set passes the test.
+-- The first number below a bound that passes the test.
 abbrev pub first-below : (bound : ℕ) (test : ℕ → Bool) → Option ℕ
 first-below zero test = None
 first-below (suc k) test = orOther (first-below k test) (cond (test k) (Some k) None)
 
+-- The first place of the list, from 0, that passes the test.
 abbrev pub first-place : (sets : List ℕ) (test : ℕ → Bool) → Option ℕ
 first-place sets test = first-below (length sets) test
 
@@ -44,6 +45,7 @@ abbrev pub first-refusal : List (Option SchemeRefusal) → Option SchemeRefusal
 first-refusal [] = None
 first-refusal (answer ∷ rest) = orOther answer (first-refusal rest)
 
+-- The refusal, if the test passes.
 abbrev pub when : Bool → SchemeRefusal → Option SchemeRefusal
 when test why = cond test (Some why) None
 

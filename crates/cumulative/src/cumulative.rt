@@ -14,8 +14,10 @@ ghost use Rattle.cumulative.specs.Cumulative.{cumulative, LevelsOfSets, Opens-
 ghost use Rattle.cumulative.specs.Making.{improper, making-refusal, By-rules-or-no-memory};
 ghost use Rattle.cumulative.specs.Records.{noted, lacks, in-record, record-numbers};
 use crate::checks::check_list;
+use crate::findings::MOST_FORBIDDEN;
 use crate::findings::find_forbidden;
 use crate::records::KeyholderRecord;
+use crate::records::RECORDS;
 use crate::records::empty_record;
 use crate::records::note_absent;
 use crate::sets::is_qualified;
@@ -33,8 +35,8 @@ use std::alloc::Global;
 pub struct Cumulative {
     n: u8,
     minimal: Vec<KeyholderSet>,
-    forbidden: [KeyholderSet; 8],
-    records: [KeyholderRecord; 8],
+    forbidden: [KeyholderSet; MOST_FORBIDDEN],
+    records: [KeyholderRecord; RECORDS],
     table: AllOf,
     ghost least: { 1 ≤ n },
     ghost most: { n ≤ most-keyholders },
@@ -56,8 +58,8 @@ impl Cumulative {
             return Err(SchemeRefusal::Memory);
         };
         let nobody = KeyholderSet::from_bits(0);
-        let forbidden = [nobody; 8];
-        let mut records = [empty_record(); 8];
+        let forbidden = [nobody; MOST_FORBIDDEN];
+        let mut records = [empty_record(); RECORDS];
         note_absent(&mut records, 1, nobody, 0);
         let table = AllOf::new(1)?;
         Ok(Cumulative {

@@ -8,20 +8,21 @@ ghost use Rattle.cumulative.specs.Access.{numbers, forbidden-sets};
 ghost use Rattle.cumulative.specs.Making.{most-forbidden};
 ghost use Rattle.cumulative.specs.Records.{record-numbers, Kept};
 use crate::records::KeyholderRecord;
+use crate::records::RECORDS;
 use crate::records::empty_record;
 use crate::records::note_absent;
 use crate::sets::is_maximal;
 use schemes::KeyholderSet;
 
 // A scheme has at most so many maximal forbidden sets: all of n goes no further.
-const MOST_FORBIDDEN: usize = 8;
+pub const MOST_FORBIDDEN: usize = 8;
 
 // The maximal forbidden sets found so far, in the first places, and the records of keyholders 1, 2 and so on.
 #[derive(Clone, Copy)]
 pub struct Findings {
     pub count: usize,
-    pub sets: [KeyholderSet; 8],
-    pub records: [KeyholderRecord; 8],
+    pub sets: [KeyholderSet; MOST_FORBIDDEN],
+    pub records: [KeyholderRecord; RECORDS],
 }
 
 // The maximal forbidden sets of keyholders 1 to n in rising order, with the records; none where there are more than 8.
@@ -33,8 +34,8 @@ pub fn find_forbidden(n: u8, minimal: &[KeyholderSet]) -> Option<Findings>
 {
     let mut found = Findings {
         count: 0,
-        sets: [KeyholderSet::from_bits(0); 8],
-        records: [empty_record(); 8],
+        sets: [KeyholderSet::from_bits(0); MOST_FORBIDDEN],
+        records: [empty_record(); RECORDS],
     };
     for number in 0..1u16 << n {
         let set = KeyholderSet::from_bits(number as u8);

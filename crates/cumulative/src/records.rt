@@ -9,6 +9,9 @@ ghost use Rattle.cumulative.specs.Records.{noted, record-numbers};
 use schemes::KeyholderSet;
 use schemes::MOST_KEYHOLDERS;
 
+// A table has a record for each of keyholders 1 to 8.
+pub const RECORDS: usize = 8;
+
 // The numbers of the maximal forbidden sets that a keyholder is not in. He holds the rows of these numbers in the table of
 // all of t, where row q is that of keyholder q + 1.
 #[derive(Clone, Copy)]
@@ -45,13 +48,14 @@ pub fn empty_record() -> KeyholderRecord
 }
 
 // Each of keyholders 1 to n who is not in the set notes its number.
-pub fn note_absent(records: &mut [KeyholderRecord; 8], n: u8, set: KeyholderSet, q: u8)
+pub fn note_absent(records: &mut [KeyholderRecord; RECORDS], n: u8, set: KeyholderSet, q: u8)
     requires few { ⌜ n ≤ most-keyholders ⌝ }
     requires small { ⌜ q < most-keyholders ⌝ }
     ensures { λ _. ⌜ ((k p : ℕ) → k < n → noted (getD (record-numbers (now (records .exit))) k 0) p ≡ ((eqb p q && not (member (set .bits) (suc k))) || noted (getD (record-numbers (now (records .entry))) k 0) p)) ⌝ }
 {
     for k in 0..n {
-        if !set.has(k + 1) {
+        let absent = !set.has(k + 1);
+        if absent {
             records[k as usize].note(q);
         }
     }

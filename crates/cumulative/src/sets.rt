@@ -36,7 +36,8 @@ fn is_redundant(sets: &[KeyholderSet], place: usize) -> bool
 {
     let set = sets[place];
     for (j, other) in sets.iter().enumerate() {
-        if j != place && set.contains(*other) {
+        let another = j != place;
+        if another && set.contains(*other) {
             return true;
         }
     }

@@ -4,14 +4,14 @@ use Rattle.cumulative.specs.Records.{record-numbers}
 use Rattle.cumulative.specs.declared.records.KeyholderRecord.{KeyholderRecord}
 use Rattle.cumulative.proofs.RecordFacts.{noted-member, noted-absent}
 use Rattle.cumulative.proofs.records.note_absent.Needs as need
-use Rattle.cumulative.proofs.records.note_absent.Needs.{then-not-has, else-not-has}
+use Rattle.cumulative.proofs.records.note_absent.Needs.{then-absent, else-absent}
 
 pub loop-k-again : need.loop-k-again
-loop-k-again c = elim (c .if-not-has .came) [
-  | then-not-has w ↦
-      noted-absent (c .args .set .bits) (c .args .q) (record-numbers (c .args .records .now)) (c .loop-k .k) (c .loop-k .records) (c .if-not-has .records)
-      (w .note .last .self) (c .loop-k .inv) (w .records-is) (omega (arith, length-map (c .args .records .now) (λ (entry : KeyholderRecord). entry .rows .bits))) (w .if-not-has .ensures tt) (w .note .ensures)
-  | else-not-has w ↦
-      noted-member (c .args .set .bits) (c .args .q) (record-numbers (c .args .records .now)) (c .loop-k .k) (c .loop-k .records) (c .if-not-has .records)
-      (c .loop-k .inv) (w .records-is) (w .if-not-has .ensures tt)
+loop-k-again c = elim (c .if-absent .came) [
+  | then-absent w ↦
+      noted-absent (c .args .set .bits) (c .args .q) (record-numbers (c .args .records .now)) (c .loop-k .k) (c .loop-k .records) (c .if-absent .records)
+      (w .note .last .self) (c .loop-k .inv) (w .records-is) (omega (arith, length-map (c .args .records .now) (λ (entry : KeyholderRecord). entry .rows .bits))) (w .if-absent .ensures tt) (w .note .ensures)
+  | else-absent w ↦
+      noted-member (c .args .set .bits) (c .args .q) (record-numbers (c .args .records .now)) (c .loop-k .k) (c .loop-k .records) (c .if-absent .records)
+      (c .loop-k .inv) (w .records-is) (w .if-absent .ensures tt)
 ]

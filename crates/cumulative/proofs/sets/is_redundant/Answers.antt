@@ -7,12 +7,12 @@ use Rattle.std.proofs.shelf.Tests.{eq-eqb, and-left, and-right, not-from-true}
 use Rattle.cumulative.specs.Access.{numbers, subset}
 use Rattle.cumulative.proofs.SetsFacts.{clash-at, redundant-found, redundant-none}
 use Rattle.cumulative.proofs.sets.is_redundant.Needs as need
-use Rattle.cumulative.proofs.sets.is_redundant.Needs.{else-j-place·by·then-j-place·else-contains, else-j-place·by·else-j-place}
+use Rattle.cumulative.proofs.sets.is_redundant.Needs.{else-another·by·then-another·else-contains, else-another·by·else-another}
 
 pub returns-then-contains : need.returns-then-contains
 returns-then-contains c =
     let sets = c .args .sets .now in
-    redundant-found sets (c .args .place) (c .pre) (c .loop-j .j) (c .loop-j-test .taken) (c .if-j-place .taken)
+    redundant-found sets (c .args .place) (c .pre) (c .loop-j .j) (c .loop-j-test .taken) (c .if-another .taken)
     (clash-at sets (c .args .place) (c .pre) (c .loop-j .j) (c .loop-j-test .taken) (c .contains .result) (c .contains .ensures) ∙ c .if-contains .taken)
 
 pub loop-j-again : need.loop-j-again
@@ -21,12 +21,12 @@ loop-j-again c =
     let j = c .loop-j .j in
     let i = c .args .place in
     below-more _ _ (c .loop-j .inv)
-    (elim (c .else-j-place .came) [
-      | else-j-place·by·then-j-place·else-contains w ↦
+    (elim (c .else-another .came) [
+      | else-another·by·then-another·else-contains w ↦
           and-right (not (eqb j i)) (subset (getD (numbers sets) j 0) (getD (numbers sets) i 0))
           (clash-at sets i (c .pre) j (c .loop-j-test .taken) (w .contains .result) (w .contains .ensures) ∙ w .if-contains .left)
-      | else-j-place·by·else-j-place w ↦
-          and-left (not (eqb j i)) (subset (getD (numbers sets) j 0) (getD (numbers sets) i 0)) (not-from-true (eqb j i) (eq-eqb j i (w .if-j-place .left)))
+      | else-another·by·else-another w ↦
+          and-left (not (eqb j i)) (subset (getD (numbers sets) j 0) (getD (numbers sets) i 0)) (not-from-true (eqb j i) (eq-eqb j i (w .if-another .left)))
     ])
 
 pub returns : need.returns

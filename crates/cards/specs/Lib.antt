@@ -1,0 +1,10 @@
+pub mod Answers
+pub mod Contents
+pub mod Format
+pub mod Kinds
+pub mod Meanings
+pub mod Reading
+pub mod Refusals
+pub mod Schemes
+pub mod Worked
+pub mod Writing

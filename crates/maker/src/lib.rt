@@ -1,0 +1,30 @@
+// The maker: makes the films of a page, row by row. Cells come from a scheme, column orders from a tape.
+mod films;
+mod maker;
+mod plays;
+mod refusals;
+mod runs;
+mod tables;
+mod work_strip;
+
+pub use maker::Maker;
+pub use plays::Call;
+pub use plays::Reply;
+pub use plays::RunLog;
+pub use plays::Unplayed;
+pub use plays::play;
+pub use refusals::RowRefusal;
+pub use refusals::RowRefusalDebug;
+pub use refusals::RowRefusalDisplay;
+pub use refusals::RowRefusalEq;
+pub use refusals::RowRefusalPartialEq;
+pub use refusals::SpoilRefusal;
+pub use refusals::SpoilRefusalDebug;
+pub use refusals::SpoilRefusalDisplay;
+pub use refusals::SpoilRefusalEq;
+pub use refusals::SpoilRefusalPartialEq;
+pub use runs::Closed;
+pub use runs::ClosedDebug;
+pub use runs::ClosedEq;
+pub use runs::ClosedPartialEq;
+pub use runs::MOST_ROWS;
