@@ -3,7 +3,7 @@ use mathlib.Core.Path.{_≡_, refl, sym, ap, subst, _∙_}
 use mathlib.Core.Logic.{_⊎_, inl, inr}
 use mathlib.Core.Bool.{Bool, true, false, not, cond, _||_}
 use mathlib.Core.List.{List, [], _∷_}
-use Prim.Native.Nat.{ℕ, _≤_, _<_}
+use Prim.Native.Nat.{ℕ, _+_, _≤_, _<_}
 use native.Mathlib.Omega.{arith}
 use lib.Dec.{ltb, eqb}
 use lib.ListN.{length}
@@ -17,24 +17,24 @@ use Rattle.std.specs.declared.result.Result.the-variants.{Ok, Err}
 use Rattle.std.proofs.shelf.Tests.{cond-false, le-ltb, ltb-false, eqb-true}
 use Rattle.std.proofs.shelf.Ways.{tells}
 use Rattle.schemes.specs.Meaning.{Meaning}
-use Rattle.schemes.specs.Refusals.{keyholders-from}
+use Rattle.schemes.specs.Refusals.{refusal-in, keyholders-from}
 use Rattle.schemes.specs.declared.keyholders.KeyholderSet.{KeyholderSet}
 use Rattle.schemes.specs.declared.refusals.SchemeRefusal.{SchemeRefusal}
 use Rattle.schemes.specs.declared.refusals.SchemeRefusal.the-variants.{ListLength}
 use Rattle.cumulative.specs.Access.{numbers}
 use Rattle.cumulative.specs.Making.{most-sets, making-refusal, when}
 use Rattle.cards.specs.Answers.{NoMemory, Answers}
-use Rattle.cards.specs.Format.{Contents, says, card-bytes, Rising, IsCard}
+use Rattle.cards.specs.Format.{Contents, says, card-bytes, Rising, SetsByKind, IsCard}
 use Rattle.cards.specs.Reading.{rising-front, reading}
 use Rattle.cards.specs.Schemes.{refusal-of, meaning-of, made-in-memory, unless-refused, making, with-scheme, OpensAs}
-use Rattle.cards.specs.Writing.{stray-sets, unordered-sets, sets-fault, sets-fit, unless-faulty, writing, Acceptable}
+use Rattle.cards.specs.Writing.{stray-sets, unordered-sets, sets-fault, sets-fit, first-set-at, unless-faulty, writing, RefusesAsOpening, Acceptable}
 use Rattle.cards.specs.declared.card.CardKind.{CardKind}
 use Rattle.cards.specs.declared.card.CardKind.the-variants.{AllOf, TwoOf, Sets}
 use Rattle.cards.specs.declared.faults.CardRefusal.the-variants.{WrongSets}
 use Rattle.cards.specs.declared.faults.CardFault.{CardFault}
 use Rattle.cards.specs.declared.faults.CardFault.the-variants.{Format, Scheme}
 use Rattle.cards.proofs.ContentsFacts.{numbers-length}
-use Rattle.cards.proofs.FormatFacts.{card-is-read}
+use Rattle.cards.proofs.FormatFacts.{card-is-read, read-sets}
 use Rattle.cards.proofs.RisingFacts.{rises, all-rise}
 
 -- ---- sets that can stand in a card
@@ -80,11 +80,6 @@ none-faulty Sets n sets none up =
 -- ---- what is written
 
 -- what writing passed
-record Writes (c : Contents) (bytes : List ℕ) : Type 0 where
-  fits : sets-fault (c .kind) (c .n) (c .sets) ≡ None
-  is-made : refusal-of (c .kind) (c .n) (c .sets) ≡ None
-  is : card-bytes c ≡ bytes
-
 writes : (fault : Option CardFault) (refusal : Option SchemeRefusal) (laid bytes : List ℕ)
     → unless-faulty fault (unless-refused refusal laid) ≡ Ok bytes → (fault ≡ None) × (refusal ≡ None) × (laid ≡ bytes)
 writes None None laid bytes e = (refl, refl, cc)
@@ -139,6 +134,44 @@ written-answer meaning c (Ok v) e r is =
     ap (λ f. unless-faulty f (unless-refused (refusal-of (c .kind) (c .n) (c .sets)) (card-bytes c))) e
     ∙ ap (λ f. unless-refused f (card-bytes c)) r ∙ ap Ok (sym is)
 written-answer meaning c (Err why) e r none = inr (none, sets-pass c e)
+
+-- ---- what opening the bytes answers
+
+reading-or : Option CardFault → Contents → Result Contents CardFault
+reading-or None c = Ok c
+reading-or (Some why) c = Err why
+
+by-test : (broken : Bool) (why : CardFault) (c : Contents) → cond broken (Err why) (Ok c) ≡ reading-or (cond broken (Some why) None) c
+unfolding reading-or
+by-test true why c = refl
+by-test false why c = refl
+
+laid-out-read : (kind : CardKind) (n : ℕ) (sets : List ℕ) → SetsByKind (says kind n sets)
+    → reading (card-bytes (says kind n sets)) ≡ reading-or (sets-fault kind n sets) (says kind n sets)
+unfolding reading-or
+laid-out-read AllOf n sets none =
+    let fits = none-faulty AllOf n sets none (subst Rising (sym (none (λ e. (let z : _≡_ {A = ℕ} 0 1 = cc in omega arith)))) tt) in
+    card-is-read _ (says AllOf n sets) (fitting AllOf n sets fits) ∙ ap (λ f. reading-or f (says AllOf n sets)) (sym fits)
+laid-out-read TwoOf n sets none =
+    let fits = none-faulty TwoOf n sets none (subst Rising (sym (none (λ e. (let z : _≡_ {A = ℕ} 0 1 = cc in omega arith)))) tt) in
+    card-is-read _ (says TwoOf n sets) (fitting TwoOf n sets fits) ∙ ap (λ f. reading-or f (says TwoOf n sets)) (sym fits)
+laid-out-read Sets n sets none =
+    read-sets n sets ∙ by-test (ltb (rising-front sets) (length sets)) (Format WrongSets (first-set-at n + rising-front sets)) (says Sets n sets)
+
+same-refusal-in : {A B : Type 0} (refusal : Option SchemeRefusal) (a : A) (b : B) → refusal-in (unless-refused refusal a) ≡ refusal-in (unless-refused refusal b)
+same-refusal-in None a b = refl
+same-refusal-in (Some why) a b = refl
+
+same-fault : (fault : Option CardFault) (c : Contents)
+    → refusal-in (with-scheme (reading-or fault c)) ≡ refusal-in (unless-faulty fault (unless-refused (refusal-of (c .kind) (c .n) (c .sets)) (card-bytes c)))
+unfolding reading-or
+same-fault None c = same-refusal-in (refusal-of (c .kind) (c .n) (c .sets)) _ (card-bytes c)
+same-fault (Some why) c = refl
+
+pub as-opening : (c : Contents) → RefusesAsOpening c
+as-opening c none =
+    ap (λ r. refusal-in (with-scheme r)) (laid-out-read (c .kind) (c .n) (c .sets) none)
+    ∙ same-fault (sets-fault (c .kind) (c .n) (c .sets)) c
 
 -- ---- the promises of `write`, from its answer
 

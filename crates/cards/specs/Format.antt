@@ -61,9 +61,12 @@ sets-field AllOf sets = None
 sets-field TwoOf sets = None
 sets-field Sets sets = Some (length sets ∷ sets)
 
+abbrev pub card-fields : Contents → List Field
+card-fields c = n-field (c .n) ∷ kind-field (c .kind) ∷ sets-field (c .kind) (c .sets) ∷ []
+
 -- The bytes of the card that says c.
 abbrev pub card-bytes : Contents → List ℕ
-card-bytes c = mapped-fields (n-field (c .n) ∷ kind-field (c .kind) ∷ sets-field (c .kind) (c .sets) ∷ [])
+card-bytes c = mapped-fields (card-fields c)
 
 -- ---- the cards
 
@@ -76,9 +79,13 @@ abbrev pub Rising : (sets : List ℕ) → Type 0
 Rising [] = Unit {0}
 Rising (x ∷ sets) = Above x sets
 
+-- Only the kind of sets has sets.
+abbrev pub SetsByKind : Contents → Type 0
+SetsByKind c = (c .kind ≡ Sets → ⊥) → c .sets ≡ []
+
 -- These bytes are a card, and say c.
 pub record IsCard (bytes : List ℕ) (c : Contents) : Type 0 where
-  pub sets-by-kind : (c .kind ≡ Sets → ⊥) → c .sets ≡ []
+  pub sets-by-kind : SetsByKind c
   pub rising-order : Rising (c .sets)
   pub layout : bytes ≡ card-bytes c
 

@@ -10,9 +10,10 @@ use Rattle.std.specs.declared.option.Option.{Option}
 use Rattle.std.specs.declared.option.Option.the-variants.{Some, None}
 use Rattle.std.specs.declared.result.Result.{Result}
 use Rattle.std.specs.declared.result.Result.the-variants.{Ok, Err}
-use Rattle.cards.specs.Format.{Contents, unwritten-n, card-bytes, Rising}
+use Rattle.schemes.specs.Refusals.{refusal-in}
+use Rattle.cards.specs.Format.{Contents, unwritten-n, card-bytes, Rising, SetsByKind}
 use Rattle.cards.specs.Reading.{rising-front}
-use Rattle.cards.specs.Schemes.{refusal-of, unless-refused}
+use Rattle.cards.specs.Schemes.{refusal-of, SchemeMade, unless-refused, opening}
 use Rattle.cards.specs.declared.card.CardKind.{CardKind}
 use Rattle.cards.specs.declared.card.CardKind.the-variants.{AllOf, TwoOf, Sets}
 use Rattle.cards.specs.declared.faults.CardRefusal.the-variants.{WrongSets}
@@ -52,10 +53,14 @@ unless-faulty (Some why) go-on = Err why
 abbrev pub writing : Contents → Result (List ℕ) CardFault
 writing c = unless-faulty (sets-fault (c .kind) (c .n) (c .sets)) (unless-refused (refusal-of (c .kind) (c .n) (c .sets)) (card-bytes c))
 
+-- Writing refuses what opening those bytes would refuse, with the same fault, number and place.
+abbrev pub RefusesAsOpening : Contents → Type 0
+RefusesAsOpening c = SetsByKind c → refusal-in (opening (card-bytes c)) ≡ refusal-in (writing c)
+
 -- ---- what has a card
 
 -- The sets rise, there are none unless the kind is sets, and the scheme can be made.
 pub record Acceptable (c : Contents) : Type 0 where
-  pub sets-by-kind : (c .kind ≡ Sets → ⊥) → c .sets ≡ []
+  pub sets-by-kind : SetsByKind c
   pub rising-order : Rising (c .sets)
-  pub scheme-made : refusal-of (c .kind) (c .n) (c .sets) ≡ None
+  pub scheme-made : SchemeMade c

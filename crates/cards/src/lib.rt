@@ -5,6 +5,8 @@ mod card_scheme;
 mod faults;
 mod opening;
 mod reading;
+#[cfg(test)]
+mod tests;
 mod writing;
 
 pub use card::Card;

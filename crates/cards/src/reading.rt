@@ -1,8 +1,8 @@
-// Reading a card.
+// Reading a card: its fields are found by the map, and the rules of the format are checked in the order of their numbers.
 ghost use mathlib.Core.Path.{_≡_};
 ghost use Prim.Native.Nat.{ℕ, _<_};
 ghost use lib.ListN.{length};
-ghost use Rattle.std.specs.Results.{Cases, isOk};
+ghost use Rattle.std.specs.Results.{Cases};
 ghost use Rattle.std.specs.Of.Vec.{vec-items};
 ghost use Rattle.std.specs.declared.result.Result.the-variants.{Ok, Err};
 ghost use Rattle.cumulative.specs.Access.{numbers};
@@ -10,6 +10,7 @@ ghost use Rattle.cards.specs.Answers.{NoMemory, Answers};
 ghost use Rattle.cards.specs.Contents.{contents};
 ghost use Rattle.cards.specs.Format.{says, IsCard, NoCard, Canonical};
 ghost use Rattle.cards.specs.Kinds.{kind-numbered};
+ghost use Rattle.cards.specs.Schemes.{names-sets};
 ghost use Rattle.cards.specs.Reading.{map-bit, field-or, rising-front, reading};
 use crate::Card;
 use crate::CardFault;
@@ -21,13 +22,13 @@ use crate::card::UNWRITTEN_N;
 use schemes::KeyholderSet;
 use std::alloc::Global;
 
-// Three bits of the map stand for fields.
+// Three bits of the map stand for fields, so that maps are below this.
 const MAPS: u8 = 8;
 
 // The place of n, after the map.
 const N_AT: usize = 1;
 
-// 1 where bit k of the map is set, else 0: how many bytes the field takes, or the count of the sets.
+// 1 where bit k of the map is set, else 0: so many bytes has the field, or for the sets their count.
 fn map_bit(map: u8, k: u32) -> usize
     requires { ⌜ k < 8 ⌝ }
     ensures { λ r. ⌜ r ≡ map-bit map k ⌝ }
@@ -76,6 +77,7 @@ struct Fields<'a> {
     sets: &'a [u8],
 }
 
+// The fields of a card, or its first fault. Nothing is copied.
 fn split_fields(bytes: &[u8]) -> Result<Fields<'_>, CardFault>
     ensures { λ r. ⌜ Cases r (λ f. reading (now (bytes .entry)) ≡ Ok (says (f .kind) (f .n) (now (f .sets)))) (λ e. reading (now (bytes .entry)) ≡ Err e) ⌝ }
 {
@@ -116,8 +118,9 @@ fn split_fields(bytes: &[u8]) -> Result<Fields<'_>, CardFault>
     Ok(Fields { kind, n, sets })
 }
 
+// The sets of these numbers. Memory is needed for the first of them.
 fn sets_of(heap: Global, bytes: &[u8]) -> Result<Vec<KeyholderSet>, CardFault>
-    ensures { λ r. ⌜ Cases r (λ v. numbers (vec-items v) ≡ now (bytes .entry)) NoMemory ⌝ }
+    ensures { λ r. ⌜ Cases r (λ v. numbers (vec-items v) ≡ now (bytes .entry)) (λ e. NoMemory e × (0 < length (now (bytes .entry)))) ⌝ }
 {
     let mut sets = Vec::new(heap);
     for byte in bytes {
@@ -126,10 +129,10 @@ fn sets_of(heap: Global, bytes: &[u8]) -> Result<Vec<KeyholderSet>, CardFault>
     Ok(sets)
 }
 
-// Reads a card, or answers its first fault in the order of the refusals' numbers, 12 to 16. That the scheme can be made is not asked
-// here: `open` does so.
+// Reads a card, or answers its first fault in the order of the refusals' numbers, 12 to 16. Whether the scheme can be made is asked
+// by `open`. Only a card of sets needs memory.
 pub fn read(heap: Global, bytes: &[u8]) -> Result<Card, CardFault>
-    ensures answers { λ r. ⌜ Answers contents (reading (now (bytes .entry))) (isOk (reading (now (bytes .entry)))) r ⌝ }
+    ensures answers { λ r. ⌜ Answers contents (reading (now (bytes .entry))) (names-sets (reading (now (bytes .entry)))) r ⌝ }
     ensures exactly_cards { λ r. ⌜ Cases r (λ card. IsCard (now (bytes .entry)) (contents card)) (λ e. (NoMemory e → ⊥) → NoCard (now (bytes .entry))) ⌝ }
     ensures canonical { λ _. ⌜ Canonical ⌝ }
 {

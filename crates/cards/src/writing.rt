@@ -1,7 +1,7 @@
-// Writing a card.
+// Writing a card: what no card can say is refused, and the rest is laid out field by field.
 ghost use mathlib.Core.Path.{_≡_};
 ghost use mathlib.Core.List.{[], _∷_, _++_};
-ghost use Prim.Native.Nat.{_<_, _≤_};
+ghost use Prim.Native.Nat.{_<_};
 ghost use lib.ListN.{length};
 ghost use Rattle.std.specs.Results.{Cases};
 ghost use Rattle.std.specs.Of.Vec.{vec-items};
@@ -10,11 +10,11 @@ ghost use Rattle.schemes.specs.Refusals.{refusal-in};
 ghost use Rattle.cumulative.specs.Access.{numbers};
 ghost use Rattle.cards.specs.Answers.{NoMemory, Answers};
 ghost use Rattle.cards.specs.Contents.{contents};
-ghost use Rattle.cards.specs.Format.{map-from, field-bytes, n-field, kind-field, sets-field, card-bytes};
+ghost use Rattle.cards.specs.Format.{map-from, field-bytes, n-field, kind-field, sets-field, card-fields, card-bytes};
 ghost use Rattle.cards.specs.Reading.{rising-front};
 ghost use Rattle.cards.specs.Schemes.{OpensAs};
 ghost use Rattle.cards.specs.declared.card.CardKind.the-variants.{Sets};
-ghost use Rattle.cards.specs.Writing.{first-set-at, stray-sets, unordered-sets, sets-fault, sets-fit, writing, Acceptable};
+ghost use Rattle.cards.specs.Writing.{first-set-at, stray-sets, unordered-sets, sets-fault, sets-fit, writing, RefusesAsOpening, Acceptable};
 use crate::Card;
 use crate::CardFault;
 use crate::CardFaultFromRefused;
@@ -86,8 +86,9 @@ fn check_sets(kind: CardKind, n: u8, sets: &[KeyholderSet]) -> Result<(), CardFa
     }
 }
 
+// The map of the fields that are written.
 fn map_of(card: &Card) -> u8
-    ensures { λ r. ⌜ r ≡ map-from 0 (n-field (now (card .entry) .n) ∷ kind-field (now (card .entry) .kind) ∷ sets-field (now (card .entry) .kind) (numbers (vec-items (now (card .entry) .sets))) ∷ []) ⌝ }
+    ensures { λ r. ⌜ r ≡ map-from 0 (card-fields (contents (now (card .entry)))) ⌝ }
 {
     let n_bit = if card.n == UNWRITTEN_N { 0 } else { N_BIT };
     match card.kind {
@@ -97,6 +98,7 @@ fn map_of(card: &Card) -> u8
     }
 }
 
+// The three fields: each is pushed unless it is left out.
 fn push_n(bytes: &mut Vec<u8>, n: u8) -> Result<(), CardFault>
     ensures { λ r. ⌜ Cases r (λ _. vec-items (now (bytes .exit)) ≡ vec-items (now (bytes .entry)) ++ field-bytes (n-field n ∷ [])) NoMemory ⌝ }
 {
@@ -155,6 +157,7 @@ fn lay_out(heap: Global, card: &Card) -> Result<Vec<u8>, CardFault>
 pub fn write(heap: Global, card: &Card) -> Result<Vec<u8>, CardFault>
     ensures answers { λ r. ⌜ Answers (λ v. vec-items v) (writing (contents (now (card .entry)))) (sets-fit (contents (now (card .entry)))) r ⌝ }
     ensures opens_again { λ r. ⌜ made r (λ v. OpensAs (vec-items v) (contents (now (card .entry)))) ⌝ }
+    ensures as_opening { λ _. ⌜ RefusesAsOpening (contents (now (card .entry))) ⌝ }
     ensures every_card { λ r. ⌜ (Acceptable (contents (now (card .entry))) → Cases r (λ v. vec-items v ≡ card-bytes (contents (now (card .entry)))) NoMemory) ⌝ }
 {
     check_sets(card.kind, card.n, &card.sets)?;

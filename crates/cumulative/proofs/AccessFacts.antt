@@ -2,23 +2,22 @@
 -- forbidden set lies within one of the list, and that a qualified set lies within none.
 use mathlib.Core.Path.{_≡_, refl, sym, ap, subst, _∙_}
 use mathlib.Core.Logic.{_⊎_, inl, inr}
-use mathlib.Core.Bool.{Bool, true, false, cond, not, _&&_, _||_}
-use mathlib.Core.List.{List, [], _∷_, _++_}
-use Prim.Native.Nat.{ℕ, zero, suc, _+_, _-_, _*_, _^_, _<_, _≤_}
+use mathlib.Core.Bool.{Bool, true, false, not, _&&_}
+use mathlib.Core.List.{List}
+use Prim.Native.Nat.{ℕ, zero, suc, _^_, _<_, _≤_}
 use native.Mathlib.Nat.{pow-suc}
-use native.Mathlib.Numerals.{add-one}
 use native.Mathlib.Omega.{arith}
 use lib.Bits.{bitAnd, bitOr, or-lt, and-zero-r, and-le-l}
 use lib.Dec.{eqb, ltb}
 use lib.ListN.{length, getD}
 use lib.Pow.{pow-pos, pow-lt}
 use Rattle.std.specs.Orderings.{Decides}
-use Rattle.std.proofs.shelf.Tests.{cases-lt, cases-eq, cases-bool, true≢false, false≢true, eqb-true, eqb-false, eq-eqb, ne-eqb, ltb-true, and-parts, and-from, and-cases, or-parts, or-from, or-right, not-true, not-false, not-from-true, not-from-false}
+use Rattle.std.proofs.shelf.Tests.{cases-lt, cases-eq, cases-bool, true≢false, false≢true, eqb-true, eqb-false, eq-eqb, ne-eqb, ltb-true, and-parts, and-from, or-parts, or-from, or-right, not-true, not-false, not-from-false}
 use Rattle.schemes.specs.Bits.{bit, any-below}
-use Rattle.schemes.specs.Keyholders.{member, Within, Among, everyone}
+use Rattle.schemes.specs.Keyholders.{member, Within, everyone}
 use Rattle.schemes.proofs.TestFacts.{any-true, any-false, any-find, any-none, look}
-use Rattle.schemes.proofs.BitFacts.{bit-of-0, bit-and, bit-or, bit-pow, bit-full, bit-past, bit-same}
-use Rattle.cumulative.specs.Access.{subset, qualifies, can-grow-to, maximal, those-below, forbidden-sets, Qualified, MaximalForbidden, IsForbiddenList}
+use Rattle.schemes.proofs.BitFacts.{bit-and, bit-or, bit-pow, bit-full, bit-past, bit-same}
+use Rattle.cumulative.specs.Access.{subset, qualifies, can-grow-to, maximal, forbidden-sets, Qualified, MaximalForbidden, IsForbiddenList}
 use Rattle.cumulative.specs.Making.{improper, ProperSets}
 use Rattle.cumulative.proofs.ListedFacts.{listed, list-passes, list-rising}
 

@@ -1,7 +1,7 @@
 -- The cumulative scheme: the four laws for every proper list of minimal sets, reduced to the rows of all of t, and the levels.
-use mathlib.Core.Path.{_≡_, refl, sym, ap, ap₂, subst, _∙_}
+use mathlib.Core.Path.{_≡_, refl, sym, ap, _∙_}
 use mathlib.Core.Logic.{_⊎_, inl, inr}
-use mathlib.Core.Bool.{Bool, true, false, cond, not, _&&_, and-false}
+use mathlib.Core.Bool.{Bool, true, false, not, _&&_}
 use mathlib.Core.List.{List}
 use Prim.Native.Nat.{ℕ, zero, suc, _+_, _-_, _^_, _<_, _≤_}
 use native.Mathlib.Numerals.{add-one}
@@ -9,13 +9,12 @@ use native.Mathlib.Omega.{arith}
 use lib.Dec.{ltb, leb}
 use lib.ListN.{length, getD}
 use lib.Pow.{pow-pos, pow-mono}
-use Rattle.std.proofs.shelf.Tests.{lt-ltb, le-ltb, le-leb, lt-leb, ltb-true, cases-lt, cases-eq, true≢false, and-parts, and-from, and-left, and-right, not-from-true, not-from-false}
+use Rattle.std.proofs.shelf.Tests.{lt-ltb, le-leb, lt-leb, ltb-true, cases-lt, cases-eq, and-parts, and-from, and-left, and-right, not-from-true, not-from-false}
 use Rattle.std.proofs.shelf.Ways.{decides-and}
 use Rattle.schemes.specs.AllOf.{row, all-of}
-use Rattle.schemes.specs.Bits.{bit, any-below, count-below}
-use Rattle.schemes.specs.Keyholders.{most-keyholders, member, Within}
-use Rattle.schemes.specs.Laws.{most-columns, InRange, Renumbering, Lawful}
-use Rattle.schemes.specs.Meaning.{cell-of, light, dark}
+use Rattle.schemes.specs.Bits.{bit, any-below}
+use Rattle.schemes.specs.Keyholders.{most-keyholders}
+use Rattle.schemes.specs.Laws.{InRange, Renumbering, Lawful}
 use Rattle.schemes.specs.declared.colour.Colour.{Colour}
 use Rattle.schemes.specs.declared.colour.Colour.the-variants.{White, Black}
 use Rattle.schemes.proofs.TestFacts.{any-true, any-false, any-same}
@@ -48,9 +47,6 @@ module _ (n : ℕ) (minimal : List ℕ) (s : ProperSets n minimal) where
 
   abbrev r : ℕ
   r = t - 1
-
-  rows-are : suc r ≡ t
-  rows-are = omega (arith, some-forbidden n minimal s)
 
   -- where all the rows are white, so is every stack
   stack-white : (set : ℕ) (c : Colour) (j : ℕ) → j < 2 ^ r → ((q : ℕ) → row r c q j ≡ false) → row-stack n (film-row F c) set j ≡ false

@@ -1,10 +1,10 @@
 -- The search for the maximal forbidden sets: what a found set adds to the list and to the records.
-use mathlib.Core.Path.{_≡_, refl, sym, ap, subst, _∙_}
+use mathlib.Core.Path.{_≡_, sym, ap, subst, _∙_}
 use mathlib.Core.Bool.{Bool, true, false, not, _&&_, _||_}
 use mathlib.Core.List.{List, [], _∷_, _++_}
-use Prim.Native.Nat.{ℕ, zero, suc, _+_, _-_, _^_, _<_, _≤_}
+use Prim.Native.Nat.{ℕ, suc, _+_, _<_, _≤_}
 use native.Mathlib.Omega.{arith}
-use lib.Dec.{eqb, ltb}
+use lib.Dec.{eqb}
 use lib.ListN.{length, getD, take, set as put}
 use Rattle.std.proofs.shelf.Lists.{length-set, length-take-le, length-push, length-map, take-more-set, map-push}
 use Rattle.schemes.specs.Bits.{bit}

@@ -1,10 +1,9 @@
 -- The checks in their order, against `making-refusal`.
 use mathlib.Core.Path.{_≡_, refl, sym, ap, _∙_}
 use mathlib.Core.Logic.{_⊎_, inl, inr}
-use mathlib.Core.Bool.{Bool, true, false, cond, _||_}
+use mathlib.Core.Bool.{true, _||_}
 use mathlib.Core.List.{List}
 use Prim.Native.Nat.{ℕ, _<_, _≤_}
-use native.Mathlib.Omega.{arith}
 use lib.Dec.{ltb}
 use lib.ListN.{length}
 use Rattle.std.specs.Options.{isSome, orOther, mapped}
@@ -14,9 +13,9 @@ use Rattle.std.proofs.shelf.Tests.{le-ltb, lt-ltb, or-left, or-right, true≢fa
 use Rattle.schemes.specs.Keyholders.{most-keyholders}
 use Rattle.schemes.specs.Refusals.{keyholders-from}
 use Rattle.schemes.specs.declared.refusals.SchemeRefusal.{SchemeRefusal}
-use Rattle.schemes.specs.declared.refusals.SchemeRefusal.the-variants.{ListLength, Members, Redundant, ForbiddenSets}
+use Rattle.schemes.specs.declared.refusals.SchemeRefusal.the-variants.{ListLength, Members, Redundant}
 use Rattle.cumulative.specs.Access.{forbidden-sets}
-use Rattle.cumulative.specs.Making.{most-sets, most-forbidden, improper, redundant, first-place, when, forbidden-refusal, making-refusal, ProperSets}
+use Rattle.cumulative.specs.Making.{most-sets, most-forbidden, improper, redundant, first-place, forbidden-refusal, making-refusal, ProperSets}
 use Rattle.cumulative.proofs.PlaceFacts.{none-first}
 
 or-none : (o : Option SchemeRefusal) → orOther o None ≡ o
@@ -58,9 +57,6 @@ module _ (n : ℕ) (sets : List ℕ) (p : 1 ≤ n) (q : n ≤ most-keyholders) w
       sets-proper = record { least = p; most = q; some-set = l; proper = none-first (length sets) (improper n sets) (sym none) }
 
 -- ---- what is refused when the list has passed
-
-pub refused-forbidden : (n : ℕ) (sets : List ℕ) → most-forbidden < length (forbidden-sets n sets) → forbidden-refusal n sets ≡ Some ForbiddenSets
-refused-forbidden n sets l = rw (lt-ltb most-forbidden (length (forbidden-sets n sets)) l) refl
 
 pub passed-forbidden : (n : ℕ) (sets : List ℕ) → length (forbidden-sets n sets) ≤ most-forbidden → forbidden-refusal n sets ≡ None
 passed-forbidden n sets l = rw (le-ltb most-forbidden (length (forbidden-sets n sets)) l) refl

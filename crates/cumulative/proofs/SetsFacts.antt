@@ -1,9 +1,8 @@
 -- The loops over the list of minimal sets: the first place that passes a test, and what each turn adds.
-use mathlib.Core.Path.{_≡_, refl, sym, ap, subst, _∙_}
-use mathlib.Core.Logic.{_⊎_, inl, inr}
-use mathlib.Core.Bool.{Bool, true, false, cond, not, _&&_, _||_, and-false}
+use mathlib.Core.Path.{_≡_, refl, sym, ap, _∙_}
+use mathlib.Core.Bool.{Bool, true, false, not, _&&_, _||_}
 use mathlib.Core.List.{List}
-use Prim.Native.Nat.{ℕ, zero, suc, _+_, _-_, _^_, _<_, _≤_}
+use Prim.Native.Nat.{ℕ, _+_, _-_, _^_, _<_, _≤_}
 use native.Mathlib.Numerals.{add-one}
 use native.Mathlib.Omega.{arith}
 use lib.Bits.{bitOr}
@@ -11,20 +10,17 @@ use lib.Dec.{eqb, ltb}
 use lib.ListN.{length, getD}
 use Rattle.std.specs.Options.{isSome}
 use Rattle.std.specs.Orderings.{Decides}
-use Rattle.std.specs.declared.option.Option.{Option}
 use Rattle.std.specs.declared.option.Option.the-variants.{Some, None}
 use Rattle.std.proofs.shelf.Lists.{getD-map, length-map}
-use Rattle.std.proofs.shelf.Tests.{cases-eq, eq-eqb, ne-eqb, and-parts, and-from, and-left, and-right, not-true, not-false, not-from-true, not-from-false}
+use Rattle.std.proofs.shelf.Tests.{ne-eqb, and-parts, and-from, not-true, not-false, not-from-false}
 use Rattle.std.proofs.shelf.Ways.{same-from-decides}
-use Rattle.schemes.specs.Bits.{any-below}
-use Rattle.schemes.specs.Keyholders.{Within}
+use Rattle.schemes.specs.Keyholders.{Within, member, most-keyholders, Empty}
 use Rattle.schemes.specs.declared.keyholders.KeyholderSet.{KeyholderSet}
 use Rattle.schemes.proofs.TestFacts.{any-true, any-false}
 use Rattle.cumulative.specs.Access.{numbers, subset, qualifies}
-use Rattle.cumulative.specs.Making.{improper, redundant, first-below, first-place}
+use Rattle.cumulative.specs.Making.{improper, redundant, first-place}
 use Rattle.cumulative.proofs.PlaceFacts.{first-none, first-found, some-first}
 use Rattle.schemes.specs.Bits.{bit}
-use Rattle.schemes.specs.Keyholders.{member, most-keyholders, Empty}
 use Rattle.schemes.proofs.KeyholderFacts.{member-with, empty-decided}
 use Rattle.cumulative.proofs.AccessFacts.{subset-decided, qualifies-alike}
 

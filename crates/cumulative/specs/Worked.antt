@@ -2,7 +2,7 @@
 use mathlib.Core.Path.{_≡_, refl}
 use mathlib.Core.Bool.{cond}
 use mathlib.Core.List.{List, [], _∷_, map}
-use Prim.Native.Nat.{ℕ, _^_}
+use Prim.Native.Nat.{ℕ}
 use Rattle.std.specs.Iters.{counting}
 use Rattle.schemes.specs.AllOf.{row}
 use Rattle.schemes.specs.Bits.{bit}

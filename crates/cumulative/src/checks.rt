@@ -1,12 +1,10 @@
 // What is refused of a list of minimal sets before its forbidden sets are looked for.
 ghost use mathlib.Core.Path.{_≡_};
-ghost use lib.Dec.{ltb};
-ghost use lib.ListN.{length};
 ghost use Rattle.std.specs.Options.{orOther};
 ghost use Rattle.std.specs.Vec.{made};
 ghost use Rattle.schemes.specs.Refusals.{refusal-in};
-ghost use Rattle.cumulative.specs.Access.{numbers, forbidden-sets};
-ghost use Rattle.cumulative.specs.Making.{most-forbidden, making-refusal, forbidden-refusal, ProperSets};
+ghost use Rattle.cumulative.specs.Access.{numbers};
+ghost use Rattle.cumulative.specs.Making.{making-refusal, forbidden-refusal, ProperSets};
 use crate::sets::first_improper;
 use crate::sets::first_redundant;
 use schemes::KeyholderSet;

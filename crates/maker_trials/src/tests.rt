@@ -2,6 +2,9 @@
 use maker::*;
 use schemes::AllOf;
 use schemes::AllOfScheme;
+use schemes::SchemeRefusalDisplay;
+use std::alloc::AllocError;
+use std::alloc::Global;
 use std::test::*;
 use tapes::*;
 
@@ -32,18 +35,18 @@ fn worked_row(rt: LibcRuntime) -> Result<(), Fail> {
     check_eq(maker.close(), closed)
 }
 
-// A first row of a page: what it answers. It leaves the output unchanged, wipes the work strip and takes no byte.
+// What the first row of a page answers, by the lengths of its buffers. It leaves the output unchanged, wipes the work strip
+// and takes no byte.
 fn refused(
-    width: u32,
-    height: u32,
-    secret: &[u8],
-    out: &mut [u8],
-    work: &mut [u8],
+    heap: Global,
+    page: (u32, u32),
+    lengths: (usize, usize, usize),
 ) -> Result<RowRefusal, Fail> {
-    let mut maker = Maker::new(all_of(2)?, PracticeTape::new(0, 1, 100), width, height);
-    out.fill(9);
-    work.fill(7);
-    let Err(why) = maker.row(secret, out, work) else {
+    let mut maker = Maker::new(all_of(2)?, PracticeTape::new(0, 1, 100), page.0, page.1);
+    let secret = Vec::from_elem(heap, 1, lengths.0)?;
+    let mut out = Vec::from_elem(heap, 9, lengths.1)?;
+    let mut work = Vec::from_elem(heap, 7, lengths.2)?;
+    let Err(why) = maker.row(&secret, &mut out, &mut work) else {
         return Err(Fail::new("accepted"));
     };
     for byte in out.iter() {
@@ -56,25 +59,24 @@ fn refused(
     Ok(why)
 }
 
+// All of 2 on 8 pixels wants a secret row of 1 byte, an output of 4 and a work strip of 2.
 #[test]
-fn early_refusals() -> Result<(), Fail> {
-    let mut out = [0; 4];
-    let mut work = [0; 2];
-    let size = RowRefusal::PageSize;
-    check_eq(refused(0, 1, &[], &mut out, &mut work)?, size)?;
-    check_eq(refused(4097, 1, &[1; 513], &mut out, &mut work)?, size)?;
-    check_eq(refused(8, 0, &[1], &mut out, &mut work)?, size)?;
-    check_eq(refused(8, 4097, &[1], &mut out, &mut work)?, size)?;
-    let secret = RowRefusal::SecretLength;
-    check_eq(refused(8, 1, &[], &mut out, &mut work)?, secret)?;
-    check_eq(refused(8, 1, &[1, 1], &mut out, &mut work)?, secret)?;
-    check_eq(refused(9, 1, &[1], &mut out, &mut work)?, secret)?;
-    let short = RowRefusal::OutputShort;
-    check_eq(refused(8, 1, &[1], &mut out[0..3], &mut work)?, short)?;
-    check_eq(refused(9, 1, &[1, 1], &mut out, &mut work)?, short)?;
-    let strip = RowRefusal::WorkShort;
-    check_eq(refused(8, 1, &[1], &mut out, &mut work[0..1])?, strip)?;
-    check_eq(refused(8, 1, &[1], &mut out, &mut work[0..0])?, strip)
+fn early_refusals(rt: LibcRuntime) -> Result<(), Fail> {
+    for (page, lengths, why) in [
+        ((0, 1), (0, 4, 2), RowRefusal::PageSize),
+        ((4097, 1), (513, 4, 2), RowRefusal::PageSize),
+        ((8, 0), (1, 4, 2), RowRefusal::PageSize),
+        ((8, 4097), (1, 4, 2), RowRefusal::PageSize),
+        ((8, 1), (0, 4, 2), RowRefusal::SecretLength),
+        ((8, 1), (2, 3, 1), RowRefusal::SecretLength),
+        ((8, 1), (1, 3, 1), RowRefusal::OutputShort),
+        ((9, 1), (2, 5, 2), RowRefusal::OutputShort),
+        ((8, 1), (1, 4, 1), RowRefusal::WorkShort),
+        ((8, 1), (1, 4, 0), RowRefusal::WorkShort),
+    ] {
+        check_eq(refused(rt.alloc(), page, lengths)?, why)?;
+    }
+    Ok(())
 }
 
 #[test]
@@ -133,22 +135,29 @@ fn one_column_on_an_empty_tape() -> Result<(), Fail> {
     check_eq(maker.tally(), (1, 0, 0))
 }
 
+// One row after another, each answering this, with the output and the work strip as they are left.
+fn one_pixel(
+    maker: &mut Maker<AllOf, PracticeTape>,
+    answer: Result<u32, RowRefusal>,
+    left: u8,
+) -> Result<(), Fail> {
+    let mut out = [9];
+    let mut work = [7];
+    check_eq(maker.row(&[128], &mut out, &mut work), answer)?;
+    check_eq(out, [left])?;
+    check_eq(work, [0])
+}
+
 #[test]
 fn spoiled_rows() -> Result<(), Fail> {
     let mut maker = Maker::new(all_of(1)?, PracticeTape::new(0, 0, 0), 1, 1);
-    let mut out = [9];
-    let mut work = [7];
     check_eq(maker.spoil(), Err(SpoilRefusal::NoRowMade))?;
     for spoiled in 1..=65535 {
-        check_eq(maker.row(&[128], &mut out, &mut work), Ok(1))?;
+        one_pixel(&mut maker, Ok(1), 128)?;
         check_eq(maker.spoil(), Ok(spoiled))?;
     }
-    check_eq(maker.row(&[128], &mut out, &mut work), Ok(1))?;
-    out = [9];
-    work = [7];
-    let full = Err(RowRefusal::AllRowsMade);
-    check_eq(maker.row(&[128], &mut out, &mut work), full)?;
-    check_eq((out, work), ([9], [0]))?;
+    one_pixel(&mut maker, Ok(1), 128)?;
+    one_pixel(&mut maker, Err(RowRefusal::AllRowsMade), 9)?;
     check_eq(maker.spoil(), Err(SpoilRefusal::CountFull))?;
     check_eq(maker.tally(), (1, 65535, 0))
 }

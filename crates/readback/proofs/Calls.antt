@@ -3,30 +3,29 @@
 use mathlib.Core.Path.{_≡_, refl, sym, subst, ap, ap₂, _∙_}
 use mathlib.Core.Bool.{Bool, true, false, cond}
 use mathlib.Core.List.{List, [], _∷_}
-use Prim.Native.Nat.{ℕ, _*_, _≤_, _<_}
+use Prim.Native.Nat.{ℕ, _*_, _≤_}
 use native.Mathlib.Omega.{arith}
 use lib.Dec.{ltb}
 use lib.ListN.{length}
 use Rattle.std.specs.declared.option.Option.{Option}
 use Rattle.std.specs.declared.option.Option.the-variants.{Some, None}
 use Rattle.std.specs.declared.result.Result.{Result}
-use Rattle.std.specs.declared.result.Result.the-variants.{Ok, Err}
+use Rattle.std.specs.declared.result.Result.the-variants.{Err}
 use Rattle.std.proofs.shelf.Tests.{le-ltb, lt-ltb}
 use Rattle.std.proofs.shelf.Ways.{tells}
 use Rattle.schemes.specs.Laws.{InRange, Lawful}
 use Rattle.schemes.specs.Meaning.{Meaning}
 use Rattle.schemes.specs.Strips.{strip-size}
 use Rattle.maker.specs.Films.{films-size}
-use Rattle.maker.specs.Law.{Readable}
 use Rattle.lightbox.specs.Laying.{stacked}
-use Rattle.lightbox.specs.Reading.{early-checks, early-refusal, Reading, cleared}
+use Rattle.lightbox.specs.Reading.{early-checks, early-refusal, Reading}
 use Rattle.lightbox.specs.declared.refusals.LayRefusal.{LayRefusal}
 use Rattle.lightbox.specs.declared.refusals.LayRefusal.the-variants.{Lengths}
 use Rattle.lightbox.specs.declared.refusals.ReadRefusal.{ReadRefusal}
 use Rattle.readback.specs.declared.refusals.ReadBackRefusal.{ReadBackRefusal}
 use Rattle.readback.specs.declared.refusals.ReadBackRefusal.the-variants.{Lay, Read}
 use Rattle.readback.specs.Law.{ReadsBack}
-use Rattle.readback.specs.ReadingBack.{back-refusal, member-strips, members-stack, passed-on, LaidAndRead, Restores}
+use Rattle.readback.specs.ReadingBack.{back-refusal, member-strips, members-stack, passed-on, LaidAndRead, Restores, MembersLaid, FilmsShort}
 use Rattle.readback.proofs.Checks.{first-some, first-none}
 use Rattle.readback.proofs.MemberStrips.{strips-of-members}
 use Rattle.readback.proofs.Runs.{glass-length, readable-read, reads-back}
@@ -74,19 +73,19 @@ module _ (s : Meaning) (range : InRange s) (lawful : Lawful s) (set w : ℕ) (fi
         ∙ ap (λ (x : Bool). cond x (Some (Lay Lengths)) None) e
 
     -- the films are too short
-    pub when-short : (why : LayRefusal) (r : Result Unit ReadBackRefusal) (glass′ : List ℕ) → length films < n * length glass → why ≡ Lengths
-        → r ≡ Err (Lay why) → glass′ ≡ glass → Done r glass′ out
-    when-short why r glass′ l lengths f same =
+    pub when-short : (why : LayRefusal) (r : Result Unit ReadBackRefusal) (glass′ : List ℕ) → FilmsShort n films glass why glass′ → r ≡ Err (Lay why) → Done r glass′ out
+    when-short why r glass′ few f =
         let e = sizes in
-        refused (Lay Lengths) r glass′ (after true (lt-ltb (length films) (films-size s w) (omega arith))) (f ∙ ap (λ (x : LayRefusal). Err (Lay x)) lengths) same
+        refused (Lay Lengths) r glass′ (after true (lt-ltb (length films) (films-size s w) (omega (arith, few .short))))
+        (f ∙ ap (λ (x : LayRefusal). Err (Lay x)) (few .lengths)) (few .unchanged)
 
     -- the strips are laid and read
-    pub when-read : (glass′ row : List ℕ) (answer : Result Unit ReadRefusal) (r : Result Unit ReadBackRefusal) → n * length glass ≤ length films
-        → glass′ ≡ stacked (length glass) (member-strips n (length glass) set films) → Reading s set w glass′ out answer row → r ≡ passed-on answer → Done r glass′ row
-    when-read glass′ row answer r l laid reading f =
+    pub when-read : (glass′ row : List ℕ) (answer : Result Unit ReadRefusal) (r : Result Unit ReadBackRefusal) → MembersLaid n (length glass) set films glass′
+        → Reading s set w glass′ out answer row → r ≡ passed-on answer → Done r glass′ row
+    when-read glass′ row answer r laid reading f =
         let e = sizes in
-        let long : films-size s w ≤ length films = omega arith in
-        let on : glass′ ≡ members-stack s set w films = laid ∙ ap₂ (λ (x y : ℕ). stacked x (member-strips y x set films)) glass-size all in
+        let long : films-size s w ≤ length films = omega (arith, laid .room) in
+        let on : glass′ ≡ members-stack s set w films = laid .stack ∙ ap₂ (λ (x y : ℕ). stacked x (member-strips y x set films)) glass-size all in
         let of = strips-of-members (strip-size (s .m) w) set films (s .n) in
         let never = after false (le-ltb (length films) (films-size s w) long) in
         record {

@@ -1,6 +1,5 @@
 -- What the maker's films show to a set, the light box reads: the law of whole runs, `ReadsBack`.
 use mathlib.Core.Path.{_≡_, refl, subst}
-use mathlib.Core.Bool.{true}
 use mathlib.Core.List.{List, [], _∷_}
 use Prim.Native.Nat.{ℕ, _≤_, _<_}
 use lib.ListN.{length}
@@ -10,7 +9,6 @@ use Rattle.std.specs.declared.result.Result.the-variants.{Ok}
 use Rattle.std.specs.shelf.Lists.{All}
 use Rattle.schemes.specs.Laws.{InRange, Lawful}
 use Rattle.schemes.specs.Meaning.{Meaning, blacks}
-use Rattle.schemes.specs.PackedRows.{bytes-for}
 use Rattle.schemes.specs.Strips.{strip-size, stack-bit, blacks-over, pixel}
 use Rattle.schemes.specs.declared.colour.Colour.{Colour}
 use Rattle.schemes.specs.declared.colour.Colour.the-variants.{White, Black}

@@ -2,7 +2,7 @@
 use mathlib.Core.Path.{_≡_}
 use mathlib.Core.Bool.{Bool, cond}
 use mathlib.Core.List.{List, [], _∷_, _++_, map}
-use Prim.Native.Nat.{ℕ, zero, suc}
+use Prim.Native.Nat.{ℕ, zero, suc, _*_, _≤_, _<_}
 use lib.Dec.{ltb}
 use lib.ListN.{length}
 use Rattle.std.specs.Options.{Cases as Unless}
@@ -18,6 +18,7 @@ use Rattle.maker.specs.Law.{Readable}
 use Rattle.lightbox.specs.Laying.{stacked}
 use Rattle.lightbox.specs.Reading.{early-checks, Reading, cleared}
 use Rattle.lightbox.specs.Refusals.{first-refusal}
+use Rattle.lightbox.specs.declared.refusals.LayRefusal.{LayRefusal}
 use Rattle.lightbox.specs.declared.refusals.LayRefusal.the-variants.{Lengths}
 use Rattle.lightbox.specs.declared.refusals.ReadRefusal.{ReadRefusal}
 use Rattle.readback.specs.declared.refusals.ReadBackRefusal.{ReadBackRefusal}
@@ -53,12 +54,16 @@ abbrev pub passed-on : Result Unit ReadRefusal → Result Unit ReadBackRefusal
 passed-on (Ok value) = Ok value
 passed-on (Err why) = Err (Read why)
 
--- What comes of it: the glass with the members' strips on it, and the answer and the row of its reading. An early refusal
--- leaves the glass and the output as they were.
+-- What a set reads from a glass, with the answer passed on.
+abbrev pub ReadFrom : Meaning → (set w : ℕ) (glass out : List ℕ) → Result Unit ReadBackRefusal → (row : List ℕ) → Type 0
+ReadFrom s set w glass out r row = (answer : Result Unit ReadRefusal) × Reading s set w glass out answer row × (r ≡ passed-on answer)
+
+-- What comes of a call: the glass with the members' strips on it, and what the set reads from it. An early refusal leaves the
+-- glass and the output as they were.
 abbrev pub LaidAndRead : Meaning → (set w : ℕ) (films glass out : List ℕ) → Result Unit ReadBackRefusal → (glass′ row : List ℕ) → Type 0
 LaidAndRead s set w films glass out r glass′ row =
     Unless (back-refusal s set w (length films) (length glass) (length out))
-    ((glass′ ≡ members-stack s set w films) × ((answer : Result Unit ReadRefusal) × Reading s set w glass′ out answer row × (r ≡ passed-on answer)))
+    ((glass′ ≡ members-stack s set w films) × ReadFrom s set w glass′ out r row)
     (λ why. (r ≡ Err why) × (glass′ ≡ glass) × (row ≡ out))
 
 -- Films that are readable to the set, as the maker promises it of an accepted row, give the secret row back with its spare
@@ -68,3 +73,14 @@ Restores s set w films glass out r row =
     (secret : List ℕ) → Readable s w set secret films →
     back-refusal s set w (length films) (length glass) (length out) ≡ None →
     (r ≡ Ok tt) × (row ≡ cleared w secret)
+
+-- ---- what the private function that lays the strips promises, for n keyholders; no public contract rests on it
+
+pub record MembersLaid (n size set : ℕ) (films glass′ : List ℕ) : Type 0 where
+  pub room : n * size ≤ length films
+  pub stack : glass′ ≡ stacked size (member-strips n size set films)
+
+pub record FilmsShort (n : ℕ) (films glass : List ℕ) (why : LayRefusal) (glass′ : List ℕ) : Type 0 where
+  pub short : length films < n * length glass
+  pub lengths : why ≡ Lengths
+  pub unchanged : glass′ ≡ glass

@@ -1,6 +1,6 @@
 // The films of a row, laid on a glass and read. Rests on the light box's own `lay` and `read`.
 ghost use mathlib.Core.Path.{_≡_};
-ghost use Prim.Native.Nat.{_*_, _≤_, _<_};
+ghost use Prim.Native.Nat.{_≤_};
 ghost use lib.ListN.{length};
 ghost use Rattle.std.specs.Results.{Cases};
 ghost use Rattle.std.specs.Vec.{made};
@@ -8,10 +8,8 @@ ghost use Rattle.schemes.specs.Keyholders.{most-keyholders};
 ghost use Rattle.schemes.specs.PackedRows.{bytes-for};
 ghost use Rattle.schemes.specs.Refusals.{refusal-in};
 ghost use Rattle.schemes.specs.Strips.{most-squares};
-ghost use Rattle.lightbox.specs.Laying.{stacked};
 ghost use Rattle.lightbox.specs.Reading.{early-refusal};
-ghost use Rattle.lightbox.specs.declared.refusals.LayRefusal.the-variants.{Lengths};
-ghost use Rattle.readback.specs.ReadingBack.{member-strips, LaidAndRead, Restores};
+ghost use Rattle.readback.specs.ReadingBack.{LaidAndRead, Restores, MembersLaid, FilmsShort};
 ghost use Rattle.readback.specs.Law.{ReadsBack};
 use crate::ReadBackRefusal;
 use crate::ReadBackRefusalFromLay;
@@ -65,8 +63,8 @@ fn lay_members(n: u8, set: KeyholderSet, films: &[u8], glass: &mut [u8]) -> Resu
     requires few { ⌜ n ≤ most-keyholders ⌝ }
     requires short { ⌜ length (now glass) ≤ bytes-for most-squares ⌝ }
     ensures { λ r. ⌜ Cases r
-        (λ _. (n * length (now (glass .entry)) ≤ length (now (films .entry))) × (now (glass .exit) ≡ stacked (length (now (glass .entry))) (member-strips n (length (now (glass .entry))) (set .bits) (now (films .entry)))))
-        (λ why. (length (now (films .entry)) < n * length (now (glass .entry))) × (why ≡ Lengths) × (now (glass .exit) ≡ now (glass .entry))) ⌝ }
+        (λ _. MembersLaid n (length (now (glass .entry))) (set .bits) (now (films .entry)) (now (glass .exit)))
+        (λ why. FilmsShort n (now (films .entry)) (now (glass .entry)) why (now (glass .exit))) ⌝ }
 {
     let size = glass.len();
     if films.len() < usize::from(n) * size {
@@ -82,11 +80,12 @@ fn lay_members(n: u8, set: KeyholderSet, films: &[u8], glass: &mut [u8]) -> Resu
     Ok(())
 }
 
-// Reads a row back from its films, which is the output of a row call for w pixels: the strips of keyholders 1 to n, one after
-// another. Clears the glass, lays the strips of the set's members on it, and reads it as the set does. The glass holds their
-// stack then, and the output what `read` leaves.
-// Refused where `read` refuses by its sizes or the set, and then where the films are shorter than n strips; the glass and the
-// output then stay as they are. Refused too where a pixel is neither white nor black, which no row of a maker is.
+// Reads a row back from its films, the output of a row call for w pixels: the strips of keyholders 1 to n, one after another.
+// Clears the glass, lays the strips of the set's members on it, and reads it as the set does. Then the glass holds their stack,
+// and the output what `read` leaves.
+// Refused where `read` refuses a size or the set, and after that where the films are shorter than n strips; the glass and the
+// output then stay as they are. Refused too where a pixel has neither of the two counts of black squares; the output is then
+// all 0. From the films of a row that a maker accepted, every qualified set reads the secret row.
 pub fn read_back<S: Scheme>(
     scheme: &S,
     set: KeyholderSet,

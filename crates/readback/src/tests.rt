@@ -1,7 +1,5 @@
-// A row that the maker made comes back; what is refused changes nothing.
+// A row that the maker made comes back; and refusals, with what they leave.
 use super::*;
-use lightbox::LayRefusal;
-use lightbox::ReadRefusal;
 use maker::Maker;
 use maker::RowRefusalDebug;
 use schemes::AllOf;
@@ -27,53 +25,35 @@ fn reads_a_row_back() -> Result<(), Fail> {
     check_eq((glass[0], out[0]), (0b1011_0000, 0b0100_0000))
 }
 
-// Calls with all of 2: a set, a width and a number of bytes of the films, which are white; then the refusal, its number and its
-// place, and what the glass and the output hold, which are 255 before.
-const REFUSED: [(u8, u32, usize, ReadBackRefusal, u8, Option<u32>, u8, u8); 3] = [
-    (
-        3,
-        2,
-        1,
-        ReadBackRefusal::Lay(LayRefusal::Lengths),
-        28,
-        None,
-        255,
-        255,
-    ),
-    (
-        3,
-        0,
-        1,
-        ReadBackRefusal::Read(ReadRefusal::Width),
-        17,
-        None,
-        255,
-        255,
-    ),
-    (
-        3,
-        2,
-        2,
-        ReadBackRefusal::Read(ReadRefusal::NeitherLevel(0)),
-        32,
-        Some(0),
-        0,
-        0,
-    ),
+// Calls with all of 2: a width, and how many bytes of white films there are; then the number and the place of the refusal, and
+// what the glass and the output hold, which are 255 before. Films that are white have no black square over pixel 0, too few.
+const REFUSED: [(u32, usize, u8, Option<u32>, u8); 3] = [
+    (0, 1, 17, None, 255),
+    (2, 1, 28, None, 255),
+    (2, 2, 32, Some(0), 0),
 ];
 
 #[test]
 fn refuses() -> Result<(), Fail> {
-    let scheme = AllOf::new(2)?;
-    for (set, w, length, why, number, place, on_glass, read) in REFUSED {
+    let both = KeyholderSet::from_bits(3);
+    for (w, length, number, place, held) in REFUSED {
         let films = [0, 0];
         let mut glass = [255];
         let mut out = [255];
-        let set = KeyholderSet::from_bits(set);
-        let answer = read_back(&scheme, set, w, &films[0..length], &mut glass, &mut out);
-        check_eq(answer, Err(why))?;
-        check_eq((why.number(), why.place()), (number, place))?;
-        check_eq((glass[0], out[0]), (on_glass, read))?;
+        let answer = read_back(
+            &AllOf::new(2)?,
+            both,
+            w,
+            &films[0..length],
+            &mut glass,
+            &mut out,
+        );
+        let (said, at) = match answer {
+            Ok(()) => (0, None),
+            Err(why) => (why.number(), why.place()),
+        };
+        check_eq((said, at), (number, place))?;
+        check_eq((glass[0], out[0]), (held, held))?;
     }
     Ok(())
 }

@@ -5,6 +5,7 @@ use crate::failure::FailureFromCard;
 use crate::files;
 use cards::Card;
 use cards::CardKind;
+use schemes::KeyholderSetOrd;
 
 // What the words `all N`, `two N` and `sets N SET..` say. A card has its sets in rising order, however they are given.
 fn card_of(rt: &LibcRuntime, words: &[String]) -> Result<Card, Failure> {

@@ -1,11 +1,17 @@
 // The program weldlatch. Everything that matters is in the libraries; here words become calls, and answers become text.
 
 mod arguments;
+mod card;
 mod failure;
 mod files;
+mod films;
+mod levels;
+mod make;
 mod order;
+mod progress;
 mod report;
 mod scheme;
+mod sets;
 mod show;
 mod usage;
 
@@ -25,7 +31,10 @@ fn run(rt: &LibcRuntime) -> Result<(), Failure> {
     };
     let rest = &words[1..];
     match command.as_str() {
+        "card" => card::run(rt, rest)?,
         "help" => println!(rt, "{}", usage::TEXT)?,
+        "levels" => levels::run(rt, rest)?,
+        "make" => make::run(rt, rest)?,
         "order" => order::run(rt, rest)?,
         "scheme" => scheme::run(rt, rest)?,
         "show" => show::run(rt, rest)?,

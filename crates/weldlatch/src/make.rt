@@ -54,35 +54,34 @@ impl Reader {
             row,
         })
     }
+}
 
-    // Whether the row that was read has the pixels of the secret row.
-    fn is_secret(&self, secret: &[u8]) -> bool {
-        for c in 0..self.width as usize {
-            if bit_at(&self.row, c) != bit_at(secret, c) {
-                return false;
-            }
+// Whether two rows have the same pixels.
+fn same_pixels(a: &[u8], b: &[u8], width: u32) -> bool {
+    for c in 0..width as usize {
+        if bit_at(a, c) != bit_at(b, c) {
+            return false;
         }
-        true
     }
+    true
+}
 
-    // Reads the strips of a row through every minimal qualified set, and compares what is read with the secret row.
-    fn check(&mut self, secret: &[u8], strips: &[u8]) -> Result<(), Failure> {
-        for k in 0..self.sets.len() {
-            let set = self.sets[k];
-            let answer = read_back(
-                &self.scheme,
-                set,
-                self.width,
-                strips,
-                &mut self.glass,
-                &mut self.row,
-            );
-            if answer.is_err() || !self.is_secret(secret) {
-                return Err(Failure::NotReadBack(set));
-            }
+// Reads the strips of a row through every minimal qualified set, and compares what is read with the secret row.
+fn check_row(reader: &mut Reader, secret: &[u8], strips: &[u8]) -> Result<(), Failure> {
+    for set in reader.sets.iter() {
+        let answer = read_back(
+            &reader.scheme,
+            *set,
+            reader.width,
+            strips,
+            &mut reader.glass,
+            &mut reader.row,
+        );
+        if answer.is_err() || !same_pixels(&reader.row, secret, reader.width) {
+            return Err(Failure::NotReadBack(*set));
         }
-        Ok(())
     }
+    Ok(())
 }
 
 // Makes every row of the picture, reads it back, and puts its strips on the films.
@@ -106,7 +105,7 @@ fn make_rows(
         if let Err(why) = maker.row(secret, &mut out, &mut work) {
             return Err(Failure::Row(why, y, supply));
         }
-        reader.check(secret, &out)?;
+        check_row(reader, secret, &out)?;
         films.add(&out)?;
         progress.report(rt, y.saturating_add(1), picture.height())?;
     }
@@ -177,10 +176,17 @@ pub fn run(rt: &LibcRuntime, words: &[String]) -> Result<(), Failure> {
         return Err(Failure::BrokenOff);
     }
     println!(rt, "{name} {n}, {m} columns")?;
-    println!(rt, "picture {width} by {height}, films {film_width} by {height}")?;
+    println!(
+        rt,
+        "picture {width} by {height}, films {film_width} by {height}"
+    )?;
     let made = closed.made;
     let taken = closed.taken;
     println!(rt, "rows made {made}, bytes taken {taken} of {supply}")?;
-    println!(rt, "every row read back through{}", sets_text(heap, &reader.sets)?)?;
+    println!(
+        rt,
+        "every row read back through{}",
+        sets_text(heap, &reader.sets)?
+    )?;
     write_films(rt, &films, prefix.as_str(), film_width, height, force)
 }

@@ -2,25 +2,44 @@
 use crate::arguments;
 use crate::failure::Failure;
 use crate::failure::FailureFromAlloc;
+use crate::failure::FailureFromCard;
 use crate::failure::FailureFromIo;
 use crate::failure::FailureFromScheme;
+use crate::files;
 use crate::report;
+use cards::CardScheme;
+use cumulative::Cumulative;
 use schemes::AllOf;
-use schemes::AllOfScheme;
 use schemes::TwoOf;
-use schemes::TwoOfScheme;
 
-// `scheme all N`, `scheme two N`
+// The scheme that the words name: `all N`, `two N`, `sets N SET..`, or a card file.
+fn named(rt: &LibcRuntime, words: &[String]) -> Result<CardScheme, Failure> {
+    match words {
+        [card] => {
+            let bytes = files::read(rt, card.as_str())?;
+            let (_card, scheme) = cards::open(rt.alloc(), &bytes)?;
+            Ok(scheme)
+        }
+        [kind, n, sets @ ..] => {
+            let n = arguments::small_number(n.as_str()).ok_or(Failure::Usage)?;
+            match (kind.as_str(), sets) {
+                ("all", []) => Ok(CardScheme::All(AllOf::new(n)?)),
+                ("two", []) => Ok(CardScheme::Two(TwoOf::new(n)?)),
+                ("sets", sets) => {
+                    let list = arguments::sets(rt.alloc(), sets)?;
+                    let mut scheme = Cumulative::new(rt.alloc())?;
+                    scheme.make(rt.alloc(), n, &list)?;
+                    Ok(CardScheme::Sets(scheme))
+                }
+                _ => Err(Failure::Usage),
+            }
+        }
+        [] => Err(Failure::Usage),
+    }
+}
+
 pub fn run(rt: &LibcRuntime, words: &[String]) -> Result<(), Failure> {
-    let [kind, n] = words else {
-        return Err(Failure::Usage);
-    };
-    let n = arguments::small_number(n.as_str()).ok_or(Failure::Usage)?;
-    let text = match kind.as_str() {
-        "all" => report::scheme(rt.alloc(), "all of", &AllOf::new(n)?)?,
-        "two" => report::scheme(rt.alloc(), "two of", &TwoOf::new(n)?)?,
-        _ => return Err(Failure::Usage),
-    };
-    print!(rt, "{text}")?;
+    let scheme = named(rt, words)?;
+    print!(rt, "{}", report::card_scheme(rt.alloc(), &scheme)?)?;
     Ok(())
 }

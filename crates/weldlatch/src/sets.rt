@@ -1,5 +1,6 @@
 // The minimal qualified sets of a scheme.
 use schemes::KeyholderSet;
+use schemes::KeyholderSetPartialEq;
 use schemes::MOST_KEYHOLDERS;
 use schemes::Scheme;
 use std::alloc::AllocError;

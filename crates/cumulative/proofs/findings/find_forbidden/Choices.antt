@@ -1,7 +1,4 @@
-use mathlib.Core.Path.{_≡_}
-use Prim.Native.Nat.{ℕ, _<_, _≤_}
-use lib.ListN.{take}
-use Rattle.cumulative.specs.Access.{numbers, maximal, those-below}
+use Rattle.cumulative.specs.Access.{numbers, maximal}
 use Rattle.cumulative.specs.Records.{record-numbers}
 use Rattle.cumulative.proofs.FindingFacts.{FoundBelow}
 use Rattle.cumulative.proofs.findings.find_forbidden.Given as given

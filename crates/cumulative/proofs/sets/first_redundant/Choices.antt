@@ -1,10 +1,8 @@
 use mathlib.Core.Path.{_≡_}
-use mathlib.Core.Bool.{false, not, _&&_}
+use mathlib.Core.Bool.{false}
 use Prim.Native.Nat.{ℕ, _<_}
-use lib.Dec.{eqb}
-use lib.ListN.{getD}
-use Rattle.cumulative.specs.Access.{numbers, subset}
-use Rattle.cumulative.specs.Making.{improper, redundant}
+use Rattle.cumulative.specs.Access.{numbers}
+use Rattle.cumulative.specs.Making.{redundant}
 use Rattle.cumulative.proofs.sets.first_redundant.Given as given
 
 abbrev pub Inv-loop-i : given.InvT-loop-i

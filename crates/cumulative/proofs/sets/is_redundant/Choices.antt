@@ -4,7 +4,6 @@ use Prim.Native.Nat.{ℕ, _<_}
 use lib.Dec.{eqb}
 use lib.ListN.{getD}
 use Rattle.cumulative.specs.Access.{numbers, subset}
-use Rattle.cumulative.specs.Making.{improper, redundant}
 use Rattle.cumulative.proofs.sets.is_redundant.Given as given
 
 abbrev pub Inv-loop-j : given.InvT-loop-j

@@ -18,36 +18,33 @@ pub returns-in-Break-lay-members : need.returns-in-Break-lay-members
 returns-in-Break-lay-members g c =
     let scheme = c .args .scheme .now in
     let p = err-from-errBy (c .from-residual-in-Break-lay-members .result) (c .from-residual-in-Break-lay-members .ensures .1) in
-    let short = c .in-Break-lay-members .ensures tt in
     let done =
     when-short (g .S·Scheme .means scheme) (g .S·Scheme·met .«in_range» scheme) (g .S·Scheme·met .lawful scheme)
     (c .args .set .bits) (c .args .w) (c .args .films .now) (c .args .glass .now) (c .args .out .now)
     (c .in-Continue-admit .ensures tt .refusal) (c .keyholders .result) (c .keyholders .ensures)
     (c .in-Break-lay-members .field-0 .0) (c .from-residual-in-Break-lay-members .result) (c .lay-members .last .glass)
-    (short .0) (short .1) (p .1 ∙ ap Err (p .2)) (short .2) in
+    (c .in-Break-lay-members .ensures tt) (p .1 ∙ ap Err (p .2)) in
     record { reads = done .reads; restores = done .restores; whole-runs = done .whole-runs }
 
 pub returns-in-Break-read : need.returns-in-Break-read
 returns-in-Break-read g c =
     let scheme = c .args .scheme .now in
     let p = err-from-errBy (c .from-residual-in-Break-read .result) (c .from-residual-in-Break-read .ensures .1) in
-    let laid = c .in-Continue-lay-members .ensures tt in
     let done =
     when-read (g .S·Scheme .means scheme) (g .S·Scheme·met .«in_range» scheme) (g .S·Scheme·met .lawful scheme)
     (c .args .set .bits) (c .args .w) (c .args .films .now) (c .args .glass .now) (c .args .out .now)
     (c .in-Continue-admit .ensures tt .refusal) (c .keyholders .result) (c .keyholders .ensures)
     (c .lay-members .last .glass) (c .read .last .out) (Err (c .in-Break-read .field-0 .0)) (c .from-residual-in-Break-read .result)
-    (laid .0) (laid .1) (c .in-Break-read .ensures tt .reads) (p .1 ∙ ap Err (p .2)) in
+    (c .in-Continue-lay-members .ensures tt) (c .in-Break-read .ensures tt .reads) (p .1 ∙ ap Err (p .2)) in
     record { reads = done .reads; restores = done .restores; whole-runs = done .whole-runs }
 
 pub returns : need.returns
 returns g c =
     let scheme = c .args .scheme .now in
-    let laid = c .in-Continue-lay-members .ensures tt in
     let done =
     when-read (g .S·Scheme .means scheme) (g .S·Scheme·met .«in_range» scheme) (g .S·Scheme·met .lawful scheme)
     (c .args .set .bits) (c .args .w) (c .args .films .now) (c .args .glass .now) (c .args .out .now)
     (c .in-Continue-admit .ensures tt .refusal) (c .keyholders .result) (c .keyholders .ensures)
     (c .lay-members .last .glass) (c .read .last .out) (Ok tt) (Ok tt)
-    (laid .0) (laid .1) (c .in-Continue-read .ensures tt .reads) refl in
+    (c .in-Continue-lay-members .ensures tt) (c .in-Continue-read .ensures tt .reads) refl in
     record { reads = done .reads; restores = done .restores; whole-runs = done .whole-runs }

@@ -1,9 +1,7 @@
-use mathlib.Core.Path.{_≡_, refl, sym, ap, _∙_}
+use mathlib.Core.Path.{refl, sym, _∙_}
 use mathlib.Core.Logic.{inl, inr}
-use Prim.Native.Nat.{_≤_}
 use native.Mathlib.Omega.{arith}
-use lib.ListN.{length}
-use Rattle.cumulative.specs.Access.{numbers, forbidden-sets}
+use Rattle.cumulative.specs.Access.{numbers}
 use Rattle.cumulative.proofs.AccessFacts.{some-forbidden}
 use Rattle.cumulative.proofs.CumulativeFacts.{cumulative-access, cumulative-levels}
 use Rattle.cumulative.proofs.MakingFacts.{passed-forbidden, table-made}

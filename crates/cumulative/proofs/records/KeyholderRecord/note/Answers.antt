@@ -1,6 +1,6 @@
-use mathlib.Core.Path.{ap, sym, subst, _∙_}
+use mathlib.Core.Path.{ap, _∙_}
 use mathlib.Core.Bool.{Bool, _||_}
-use Prim.Native.Nat.{ℕ, suc, _+_}
+use Prim.Native.Nat.{ℕ, suc}
 use native.Mathlib.Numerals.{add-one}
 use lib.Dec.{eqb, eqb·suc-suc}
 use Rattle.cumulative.specs.Records.{noted}
