@@ -20,12 +20,12 @@ extern "C" {
 const WIDTH: usize = 1024;
 const SUPPLY: u32 = 1 << 20;
 
-fn proved(n: u8, seed: u32, secret: &[u8], out: &mut [u8], work: &mut [u8]) -> u8 {
+fn proved(n: u8, start: u32, secret: &[u8], out: &mut [u8], work: &mut [u8]) -> u8 {
     // SAFETY: the pointers and lengths are those of slices that live through the call and do not overlap.
     unsafe {
         weldlatch_row(
             n,
-            seed,
+            start,
             SUPPLY,
             WIDTH as u32,
             secret.as_ptr(),
@@ -66,10 +66,10 @@ fn digit(tape: &mut Tape, base: u32) -> Option<usize> {
 }
 
 // All of n, as one would write it without a proof: the cells come from the column's number, the order from a small list.
-fn plain(n: usize, seed: u32, secret: &[u8], out: &mut [u8]) -> Option<()> {
+fn plain(n: usize, start: u32, secret: &[u8], out: &mut [u8]) -> Option<()> {
     let m = 1usize << (n - 1);
     let size = (WIDTH * m + 7) / 8;
-    let mut tape = Tape { state: seed, count: SUPPLY };
+    let mut tape = Tape { state: start, count: SUPPLY };
     let mut order = [0u8; 128];
     for c in 0..WIDTH {
         let black = secret[c / 8] >> (7 - c % 8) & 1 == 1;
@@ -100,10 +100,10 @@ fn plain(n: usize, seed: u32, secret: &[u8], out: &mut [u8]) -> Option<()> {
 // The shortest of many runs, in nanoseconds a row.
 fn shortest(mut row: impl FnMut(u32)) -> f64 {
     let mut best = f64::MAX;
-    for seed in 0..400 {
-        let start = Instant::now();
-        row(seed);
-        best = best.min(start.elapsed().as_nanos() as f64);
+    for start in 0..400 {
+        let begun = Instant::now();
+        row(start);
+        best = best.min(begun.elapsed().as_nanos() as f64);
     }
     best
 }
@@ -114,20 +114,20 @@ fn main() {
         let m = 1usize << (n - 1);
         let total = n * ((WIDTH * m + 7) / 8);
         let (mut ours, mut theirs, mut work) = (vec![0u8; total], vec![0u8; total], vec![0u8; m]);
-        for seed in 0..100 {
+        for start in 0..100 {
             ours.fill(0);
             theirs.fill(0);
-            assert_eq!(proved(n as u8, seed, &secret, &mut ours, &mut work), 0);
-            assert!(plain(n, seed, &secret, &mut theirs).is_some());
-            assert_eq!(ours, theirs, "all of {n}, tape {seed}");
+            assert_eq!(proved(n as u8, start, &secret, &mut ours, &mut work), 0);
+            assert!(plain(n, start, &secret, &mut theirs).is_some());
+            assert_eq!(ours, theirs, "all of {n}, tape {start}");
         }
-        let a = shortest(|seed| {
+        let a = shortest(|start| {
             ours.fill(0);
-            proved(n as u8, seed, &secret, &mut ours, &mut work);
+            proved(n as u8, start, &secret, &mut ours, &mut work);
         });
-        let b = shortest(|seed| {
+        let b = shortest(|start| {
             theirs.fill(0);
-            plain(n, seed, &secret, &mut theirs);
+            plain(n, start, &secret, &mut theirs);
         });
         println!(
             "all of {n}, {WIDTH} pixels: maker {:.1} us, plain {:.1} us, ratio {:.2}",

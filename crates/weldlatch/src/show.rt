@@ -12,7 +12,7 @@ use std::alloc::AllocError;
 use std::alloc::Global;
 
 // A line has at most so many characters; a wider picture is scaled down.
-const LINE: u32 = 96;
+const LINE: u32 = 160;
 
 // Whether at least half of the pixels are black in the square of `scale` by `scale` pixels at (x, y).
 fn is_dark(picture: &Picture<'_>, scale: u32, x: u32, y: u32) -> Result<bool, PictureFault> {
