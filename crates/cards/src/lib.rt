@@ -1,4 +1,5 @@
 // Cards: small files that name a scheme. Reading and writing them, and the scheme that a card names.
+#![tactic(auto)]
 
 mod card;
 mod card_scheme;

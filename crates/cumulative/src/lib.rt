@@ -1,5 +1,6 @@
 // The cumulative scheme: the owners list the minimal sets of keyholders who may open together. Rests on the crate of
 // schemes, whose scheme all of n gives its table.
+#![tactic(auto)]
 
 mod checks;
 mod cumulative;

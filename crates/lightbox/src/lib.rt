@@ -1,4 +1,5 @@
 // The light box: strips are laid on a glass, and what the stack shows is read from it. Rests on the crate `schemes`.
+#![tactic(auto)]
 
 mod contrasts;
 mod counting;

@@ -1,4 +1,6 @@
 // The maker: makes the films of a page, row by row. Cells come from a scheme, column orders from a tape.
+#![tactic(auto)]
+
 mod films;
 mod maker;
 mod plays;

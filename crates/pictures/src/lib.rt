@@ -1,5 +1,7 @@
 // Picture files in the raw PBM format: opening one, its rows as parts of the file, and the head of a file that is to be written.
 // It rests on the standard library alone.
+#![tactic(auto)]
+
 mod heads;
 mod parts;
 mod pictures;

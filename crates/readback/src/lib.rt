@@ -1,4 +1,5 @@
 // What was made can be read back: the films of a row, laid on a glass and read. Rests on the light box, and on the maker's law.
+#![tactic(auto)]
 
 mod reading_back;
 mod refusals;

@@ -1,5 +1,6 @@
 // Schemes of visual secret sharing: sets of keyholders, the interface `Scheme` with its laws, the schemes all of n and two
 // of n, rows of bits packed into bytes, and the sizes of strips.
+#![tactic(auto)]
 
 mod all_of;
 mod bits;

@@ -1,4 +1,6 @@
 // Tapes of noise, and what is drawn from them: digits, and the column orders of blocks. Rests on the standard library only.
+#![tactic(auto)]
+
 mod digits;
 mod noise;
 mod orders;

@@ -1,4 +1,6 @@
 // One row of the maker for a caller in another language, and a tape that costs next to nothing, to time a row by.
+#![tactic(auto)]
+
 ghost use Rattle.std.specs.Prelude.{◌≡◌, ◌≤◌};
 ghost use Rattle.schemes.specs.AllOf.{all_of};
 ghost use Rattle.maker.specs.Runs.{fresh, outcome, row as row-call};

@@ -1,4 +1,5 @@
 // The program weldlatch. Everything that matters is in the libraries; here words become calls, and answers become text.
+#![tactic(auto)]
 
 mod arguments;
 mod card;

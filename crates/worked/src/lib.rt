@@ -1,5 +1,7 @@
 // The films of small cases worked out by hand: what the definitions of the other crates yield for them, as one table.
 // docs/EXAMPLES.md has the same table in words.
+#![tactic(auto)]
+
 ghost use Rattle.std.specs.Prelude.{◌≡◌, [], ◌∷◌, Ok};
 ghost use Rattle.worked.specs.Table.{WorkedByHand};
 
