@@ -3,7 +3,7 @@ ghost use Rattle.cards.specs.Meanings.{scheme_meaning};
 ghost use Rattle.schemes.specs.AllOfFacts.{all_of_in_range, all_of_lawful};
 ghost use Rattle.schemes.specs.TwoOfFacts.{two_of_in_range, two_of_lawful};
 ghost use Rattle.cumulative.specs.Access.{numbers};
-ghost use Rattle.cumulative.proofs.CumulativeFacts.{cumulative_in_range, cumulative_lawful};
+ghost use Rattle.cumulative.specs.CumulativeFacts.{cumulative_in_range, cumulative_lawful};
 ghost use Rattle.cards.specs.declared.card_scheme.CardScheme.TheVariants.{All, Two, Sets};
 ghost use Rattle.cards.specs.CardSchemeSchemeLemmas.{proper_sets, few_forbidden};
 

@@ -7,7 +7,7 @@ use Rattle.schemes.specs.declared.keyholders.KeyholderSet.{KeyholderSet}
 use Rattle.cumulative.specs.Access.{numbers, those_below}
 use Rattle.cumulative.specs.Making.{most_forbidden}
 use Rattle.cumulative.specs.Records.{noted, lacks, Kept}
-use Rattle.cumulative.proofs.ListedFacts.{list_none, list_yes, list_no, list_more}
+use Rattle.cumulative.specs.ListedFacts.{list_none, list_yes, list_no, list_more}
 use Rattle.cumulative.proofs.RecordFacts.{lacks_push, kept_none}
 
 -- the numbers below b that pass, in the first places of a table of sets, and the records of them

@@ -12,7 +12,7 @@ use Rattle.cumulative.specs.Making.{improper, redundant, first_place}
 use Rattle.cumulative.proofs.PlaceFacts.{first_none, first_found, some_first}
 use Rattle.schemes.specs.Bits.{bit}
 use Rattle.schemes.proofs.KeyholderFacts.{member_with, empty_decided}
-use Rattle.cumulative.proofs.AccessFacts.{subset_decided, qualifies_alike}
+use Rattle.cumulative.specs.AccessFacts.{subset_decided, qualifies_alike}
 
 -- ---- the numbers of a list of sets
 

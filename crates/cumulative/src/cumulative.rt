@@ -7,7 +7,7 @@ ghost use Rattle.cumulative.specs.Access.{numbers, forbidden_sets, IsForbiddenLi
 ghost use Rattle.cumulative.specs.Cumulative.{cumulative, LevelsOfSets, OpensToQualified};
 ghost use Rattle.cumulative.specs.Making.{improper, making_refusal, ByRulesOrNoMemory};
 ghost use Rattle.cumulative.specs.Records.{noted, lacks, in_record, record_numbers};
-ghost use Rattle.std.proofs.Common.{rules, arith};
+ghost use Rattle.cumulative.specs.CumulativeFacts.{cumulative_in_range, cumulative_lawful, few_forbidden};
 
 use crate::checks::check_list;
 use crate::findings::{MOST_FORBIDDEN, find_forbidden};
@@ -116,9 +116,9 @@ impl Cumulative {
 impl Scheme for Cumulative {
     ghost means = { λ s. cumulative s.n (numbers s.minimal.items) };
 
-    ghost in_range = { first_of (Prim.search rules, Prim.grind (arith, Self.row.coded.inj)) };
+    ghost in_range = { λ s. cumulative_in_range s.n (numbers s.minimal.items) (record { least = s.least; most = s.most; some_set = s.listed; proper = s.proper }) (few_forbidden _ _ s.rows s.table.most) };
 
-    ghost lawful = { first_of (Prim.search rules, Prim.grind (arith, Self.row.coded.inj)) };
+    ghost lawful = { λ s. cumulative_lawful s.n (numbers s.minimal.items) (record { least = s.least; most = s.most; some_set = s.listed; proper = s.proper }) };
 
     fn keyholders(&self) -> u8 {
         self.n

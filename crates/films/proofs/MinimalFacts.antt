@@ -9,8 +9,8 @@ use Rattle.schemes.specs.Laws.{InRange}
 use Rattle.schemes.specs.Meaning.{Meaning}
 use Rattle.schemes.specs.TestFacts.{any_true, any_false, any_none}
 use Rattle.cumulative.specs.Access.{subset, those_below}
-use Rattle.cumulative.proofs.AccessFacts.{within_subset, subset_within, subset_decided}
-use Rattle.cumulative.proofs.ListedFacts.{listed, list_passes, list_rising}
+use Rattle.cumulative.specs.AccessFacts.{within_subset, subset_within, subset_decided}
+use Rattle.cumulative.specs.ListedFacts.{listed, list_passes, list_rising}
 use Rattle.films.specs.Minimal.{MinimalQualified, IsMinimalList, is_qualified_part, is_minimal, minimal_sets_of}
 
 -- a part of a set has no greater number

@@ -8,7 +8,7 @@ use schemes::{KeyholderSet, Levels, Scheme, levels_of};
 // What a qualified set sees: light, the number of black squares over a white pixel; dark, the number over a black one; and
 // m, the number of squares that a pixel has. Refused where the set is not qualified.
 pub fn contrast<S: Scheme>(scheme: &S, set: KeyholderSet) -> Result<(u8, u8, u8), ContrastRefusal>
-    ensures answer { result ≡ contrast_of (means scheme.now) set.bits }
+    ensures answer { result ≡ contrast_of (S.means scheme.now) set.bits }
     ensures levels { IfOk result Distinct }
 {
     if !scheme.qualified(set) {

@@ -20,8 +20,8 @@ fn admit<S: Scheme>(
     glass_bytes: usize,
     out_bytes: usize,
 ) -> Result<(u8, u8, u8), ReadRefusal>
-    ensures refusal { refusal_in result ≡ early_refusal (means scheme.now) set.bits w glass_bytes out_bytes }
-    ensures contrast { IfOk result (λ seen. contrast_of (means scheme.now) set.bits ≡ Ok seen) }
+    ensures refusal { refusal_in result ≡ early_refusal (S.means scheme.now) set.bits w glass_bytes out_bytes }
+    ensures contrast { IfOk result (λ seen. contrast_of (S.means scheme.now) set.bits ≡ Ok seen) }
     ensures levels { IfOk result Distinct }
     ensures long { OnOk result (out_bytes ≡ bytes_for w) }
 {
@@ -80,7 +80,7 @@ pub fn read<S: Scheme>(
     glass: &[u8],
     out: &mut [u8],
 ) -> Result<(), ReadRefusal>
-    ensures reads { Reading (means scheme.now) set.bits w glass.now out.old result out.new }
+    ensures reads { Reading (S.means scheme.now) set.bits w glass.now out.old result out.new }
     ensures determined { OneReading }
     ensures restores { ReadsWhatShows }
 {

@@ -1,11 +1,11 @@
 -- Sets of keyholders, by the tests on their numbers that the code makes.
-use Rattle.std.proofs.Common.{◌≡◌, ℕ, zero, suc, ◌+◌, ◌-◌, ◌^◌, ◌<◌, ◌≤◌, min, Bool, true, false, ◌&&◌, ◌||◌, eqb, ltb, leb, ◌⊎◌, Decides, sym, refl, ap, ◌∙◌, subst, ap₂, inl, inr, add-one, arith, pow_pos, pow_mono}
+use Rattle.std.proofs.Common.{◌≡◌, ℕ, zero, suc, ◌+◌, ◌-◌, ◌^◌, ◌<◌, ◌≤◌, min, Bool, true, false, ◌&&◌, ◌||◌, eqb, ltb, leb, Decides, sym, refl, ap, ◌∙◌, inl, inr, add-one, arith, pow_pos, pow_mono}
 use lib.Bits.{bit_and, bit_or, and_lt}
 use lib.Count.{ones}
 use lib.Dec.{eqb-suc-suc}
-use Rattle.std.proofs.lemmas.Bool.{cases_lt, true≢false, eqb-true, eq-eqb, ne_eqb, and_parts, and_from, and_left, and_right}
+use Rattle.std.proofs.lemmas.Bool.{cases_lt, eqb-true, eq-eqb, ne_eqb, and_parts, and_from, and_left, and_right}
 use Rattle.std.proofs.lemmas.Bool.Decides.{nat_tests}
-use Rattle.schemes.specs.Bits.{bit, any_below, count_below}
+use Rattle.schemes.specs.Bits.{bit, any_below}
 use Rattle.schemes.specs.Keyholders.{most_keyholders, member, Within, Empty, members_among, size, everyone}
 use Rattle.schemes.specs.TestFacts.{any_true, any_next, count_none, count_add}
 use Rattle.schemes.specs.BitFacts.{bit_of_0, bit-and, bit-or, bit_pow, bit_past, bit_same, ones_counted}

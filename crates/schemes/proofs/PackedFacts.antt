@@ -1,14 +1,13 @@
 -- Packed rows: their bits are those that they were packed of, bytes are those that their bits make, and what setting one
 -- bit changes.
-use Rattle.std.proofs.Common.{◌≡◌, ℕ, ◌+◌, ◌-◌, ◌*◌, ◌/◌, ◌%◌, ◌^◌, ◌<◌, ◌≤◌, Bool, true, false, ◌&&◌, ◌||◌, eqb, ltb, ◌⊎◌, List, length, get_or, set, replicate, sym, refl, ap, ◌∙◌, ap₂, inl, inr, arith}
+use Rattle.std.proofs.Common.{◌≡◌, ℕ, ◌+◌, ◌-◌, ◌*◌, ◌/◌, ◌%◌, ◌^◌, ◌<◌, ◌≤◌, Bool, true, false, ◌&&◌, ◌||◌, eqb, ltb, List, length, get_or, set, replicate, sym, refl, ap, ◌∙◌, ap₂, inl, inr, arith}
 use mathlib.Core.Bool.{or-false}
 use lib.Bits.{bit_or, or_lt}
 use lib.Pow.{pow-lt}
-use Rattle.std.specs.List.{range_with_len}
 use Rattle.std.proofs.lemmas.List.FromFn.{get_or-map-range_with_len, length-map-range_with_len}
 use Rattle.std.proofs.lemmas.List.{ext_get_or, get_or_past, get_or-set_same, get_or-set_other, get_or-replicate, length-replicate}
 use Rattle.std.proofs.lemmas.Bool.{cases_eq, cases_lt, eq-eqb, ne_eqb, lt-ltb, le-ltb, or_left, or_right}
-use Rattle.schemes.specs.Bits.{bit, number_of}
+use Rattle.schemes.specs.Bits.{bit}
 use Rattle.schemes.specs.PackedRows.{bit_at, byte_of, packed, Bytes}
 use Rattle.schemes.specs.BitFacts.{bit_of_0, bit-or, bit_pow, bit_same, bit_number_of, number_of_below}
 

@@ -1,14 +1,14 @@
 -- All of n: the four laws for every n, and the levels.
-use Rattle.std.specs.Prelude.{◌≡◌, ℕ, zero, suc, ◌+◌, ◌-◌, ◌*◌, ◌%◌, ◌^◌, ◌<◌, ◌≤◌, Bool, true, false, cond, not, ◌&&◌, ◌⊎◌, ◌==◌, ◌≢◌, count_ones, nat_eq, refl}
+use Rattle.std.specs.Prelude.{◌≡◌, ℕ, suc, ◌-◌, ◌%◌, ◌^◌, ◌<◌, ◌≤◌, Bool, true, false, not, ◌&&◌, ◌⊎◌, ◌==◌, ◌≢◌, count_ones, nat_eq, refl}
 use Rattle.std.proofs.Common.{sym, ap, subst, ◌∙◌, inl, inr, arith, pow_pos, pow_mono}
 use Rattle.std.proofs.Math.Bool.{and-false}
 use Rattle.std.specs.Int.Bits.{bit_xor, xor_assoc, xor_self, xor_zero_r}
 use Rattle.std.proofs.lemmas.Nat.{xor_lt}
 use Rattle.std.proofs.Math.Pow.{pow-lt}
 use Rattle.std.proofs.lemmas.Bool.{lt-ltb, le-ltb, cases_lt, true≢false, eqb-true, eqb-false, eq-eqb, ne_eqb, not-true, not-false, and_from}
-use Rattle.schemes.specs.Bits.{bit, differ, any_below, count_below, parity}
-use Rattle.schemes.specs.Keyholders.{most_keyholders, Within, everyone}
-use Rattle.schemes.specs.Meaning.{Meaning, light, dark}
+use Rattle.schemes.specs.Bits.{bit, differ, count_below, parity}
+use Rattle.schemes.specs.Keyholders.{most_keyholders, everyone}
+use Rattle.schemes.specs.Meaning.{light, dark}
 use Rattle.schemes.specs.Laws.{most_columns, InRange, Renumbering, Lawful}
 use Rattle.schemes.specs.AllOf.{last_row, row, all_of, all_with, LevelsOfAll}
 use Rattle.schemes.specs.declared.colour.Colour.{Colour}

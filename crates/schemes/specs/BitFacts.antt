@@ -1,6 +1,6 @@
 -- Bits of numbers: of sums by places, of powers of two, of a number made from a test; their parity and their count.
-use Rattle.std.specs.Prelude.{◌≡◌, ℕ, zero, suc, ◌+◌, ◌-◌, ◌*◌, ◌/◌, ◌%◌, ◌^◌, ◌<◌, ◌≤◌, Bool, true, false, cond, not, ◌&&◌, ◌||◌, ◌⊎◌, ◌==◌, ◌≢◌, count_ones, nat_eq, refl}
-use Rattle.std.proofs.Common.{sym, ap, subst, ◌∙◌, inl, inr, div-one, pow-suc, mod-lt, one-add, add-one, arith, pow_pos, pow_mono, shr-shr}
+use Rattle.std.specs.Prelude.{◌≡◌, ℕ, zero, suc, ◌+◌, ◌-◌, ◌/◌, ◌%◌, ◌^◌, ◌<◌, ◌≤◌, Bool, true, false, cond, ◌&&◌, ◌||◌, ◌⊎◌, ◌==◌, ◌≢◌, count_ones, nat_eq, refl}
+use Rattle.std.proofs.Common.{sym, ap, ◌∙◌, inl, inr, div-one, pow-suc, mod-lt, one-add, add-one, arith, pow_pos, pow_mono, shr-shr}
 use Rattle.std.proofs.Math.Bool.{or-false}
 use Rattle.std.proofs.Math.Nat.{div-eq_of_lt}
 use Rattle.std.specs.Int.Count.{ones_step}
@@ -8,8 +8,8 @@ use Rattle.std.proofs.lemmas.Nat.{ones-le, and_shr, or_shr, xor_shr, and_mod, or
 use Rattle.std.proofs.Math.Dec.{eqb-zero-suc, eqb-suc-zero, eqb-suc-suc}
 use Rattle.std.specs.Int.Bits.{bit_and, bit_or, bit_xor}
 use Rattle.std.proofs.Math.Pow.{pow-lt}
-use Rattle.std.proofs.lemmas.Bool.{cases_lt, cases_eq, cases_Bool, true≢false, false≢true, eqb-true, eq-eqb, ne_eqb, or_right}
-use Rattle.schemes.specs.Bits.{bit, differ, any_below, count_below, parity, number_of}
+use Rattle.std.proofs.lemmas.Bool.{cases_eq, true≢false, false≢true, eq-eqb, ne_eqb, or_right}
+use Rattle.schemes.specs.Bits.{bit, differ, count_below, parity, number_of}
 use Rattle.schemes.specs.TestFacts.{look, count_same, count_add}
 
 -- a number is even or odd

@@ -1,5 +1,5 @@
 -- The laws that every scheme keeps.
-use Rattle.std.specs.Prelude.{◌≡◌, ℕ, suc, ◌<◌, ◌≤◌, Bool, true, false}
+use Rattle.std.specs.Prelude.{◌≡◌, ℕ, ◌<◌, ◌≤◌, true, false}
 use Rattle.schemes.specs.Keyholders.{most_keyholders, member, Within, Among, everyone}
 use Rattle.schemes.specs.Meaning.{Meaning, light, dark}
 use Rattle.schemes.specs.declared.colour.Colour.{Colour}

@@ -1,5 +1,5 @@
 -- What a scheme means: its keyholders, its columns, its two tables of cells, and which sets are qualified.
-use Rattle.std.specs.Prelude.{ℕ, zero, suc, ◌^◌, Bool, true, false, ◌&&◌, nat_lt}
+use Rattle.std.specs.Prelude.{ℕ, zero, suc, ◌^◌, Bool, false, ◌&&◌, nat_lt}
 use Rattle.schemes.specs.Bits.{any_below, count_below}
 use Rattle.schemes.specs.Keyholders.{member}
 use Rattle.schemes.specs.declared.colour.Colour.{Colour}

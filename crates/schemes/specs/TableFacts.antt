@@ -1,11 +1,11 @@
 -- A scheme that is given by tables keeps the laws if their rows do: what all of n, two of n and the cumulative schemes share.
-use Rattle.std.specs.Prelude.{◌≡◌, ℕ, zero, suc, ◌-◌, ◌^◌, ◌<◌, ◌≤◌, Bool, true, false, ◌&&◌, ◌⊎◌, nat_lt, refl}
+use Rattle.std.specs.Prelude.{◌≡◌, ℕ, zero, suc, ◌-◌, ◌^◌, ◌<◌, ◌≤◌, Bool, true, false, ◌&&◌, nat_lt, refl}
 use Rattle.std.proofs.Common.{sym, ap, subst₂, ◌∙◌, inl, inr, arith, pow_pos}
 use Rattle.std.proofs.Math.Bool.{and-false}
 use Rattle.std.proofs.lemmas.Bool.{lt-ltb, le-ltb, cases_lt}
 use Rattle.schemes.specs.Bits.{bit, any_below, count_below}
 use Rattle.schemes.specs.Keyholders.{most_keyholders, member, Within, everyone}
-use Rattle.schemes.specs.Meaning.{Meaning, cell_of, tabled, light, dark}
+use Rattle.schemes.specs.Meaning.{cell_of, tabled, light, dark}
 use Rattle.schemes.specs.Laws.{most_columns, InRange, Renumbering, Lawful}
 use Rattle.schemes.specs.declared.colour.Colour.{Colour}
 use Rattle.schemes.specs.declared.colour.Colour.TheVariants.{White, Black}

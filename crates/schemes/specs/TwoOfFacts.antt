@@ -1,12 +1,11 @@
 -- Two of n: the four laws for every n, and the levels.
-use Rattle.std.specs.Prelude.{◌≡◌, ℕ, zero, suc, ◌+◌, ◌-◌, ◌*◌, ◌^◌, ◌<◌, ◌≤◌, Bool, true, false, cond, ◌&&◌, leb, ◌⊎◌, ◌==◌, ◌≢◌, nat_eq, nat_le, nat_lt, refl}
-use Rattle.std.proofs.Common.{sym, ap, subst, ◌∙◌, inl, inr, arith, pow_pos}
-use Rattle.std.proofs.lemmas.Bool.{lt-ltb, le-leb, leb-true, leb-false, cases_eq, cases_order, true≢false, eq-eqb, ne_eqb, and_parts, and_from, and_left, and_right}
+use Rattle.std.specs.Prelude.{◌≡◌, ℕ, zero, suc, ◌-◌, ◌^◌, ◌<◌, ◌≤◌, Bool, true, false, cond, ◌&&◌, leb, ◌⊎◌, ◌==◌, ◌≢◌, nat_eq, nat_le, nat_lt, refl}
+use Rattle.std.proofs.Common.{sym, ap, ◌∙◌, inl, inr, arith}
+use Rattle.std.proofs.lemmas.Bool.{le-leb, leb-true, leb-false, cases_eq, cases_order, true≢false, eq-eqb, ne_eqb, and_parts, and_from, and_left, and_right}
 use Rattle.std.proofs.lemmas.Bool.Decides.{nat_tests}
-use Rattle.schemes.specs.Bits.{bit, any_below, count_below}
-use Rattle.schemes.specs.Keyholders.{most_keyholders, members_among, Within}
-use Rattle.schemes.specs.Meaning.{Meaning, light, dark}
-use Rattle.schemes.specs.Laws.{most_columns, InRange, Renumbering, Lawful}
+use Rattle.schemes.specs.Bits.{bit, count_below}
+use Rattle.schemes.specs.Keyholders.{most_keyholders, members_among}
+use Rattle.schemes.specs.Laws.{InRange, Renumbering, Lawful}
 use Rattle.schemes.specs.TwoOf.{row, two_of, LevelsOfTwo}
 use Rattle.schemes.specs.declared.colour.Colour.{Colour}
 use Rattle.schemes.specs.declared.colour.Colour.TheVariants.{White, Black}

@@ -13,7 +13,7 @@ pub struct Levels {
 
 // Whether the films of the set's members, laid on one another, are black at the column.
 fn is_stack_black<S: Scheme>(scheme: &S, colour: Colour, set: KeyholderSet, column: u8) -> bool
-    ensures { result ≡ stack (means scheme.now) colour set.bits column }
+    ensures { result ≡ stack (S.means scheme.now) colour set.bits column }
 {
     for k in 0..scheme.keyholders() {
         if set.has(k + 1) && scheme.cell(colour, k + 1, column) {
@@ -25,7 +25,7 @@ fn is_stack_black<S: Scheme>(scheme: &S, colour: Colour, set: KeyholderSet, colu
 
 // At how many columns they are.
 fn count_blacks<S: Scheme>(scheme: &S, colour: Colour, set: KeyholderSet) -> u8
-    ensures { result ≡ blacks (means scheme.now) colour set.bits }
+    ensures { result ≡ blacks (S.means scheme.now) colour set.bits }
 {
     let mut total = 0;
     for column in 0..scheme.columns() {
@@ -38,8 +38,8 @@ fn count_blacks<S: Scheme>(scheme: &S, colour: Colour, set: KeyholderSet) -> u8
 
 // Light and dark of any set, qualified or not; keyholders above n show nothing.
 pub fn levels_of<S: Scheme>(scheme: &S, set: KeyholderSet) -> Levels
-    ensures light { result.light ≡ light (means scheme.now) set.bits }
-    ensures dark { result.dark ≡ dark (means scheme.now) set.bits }
+    ensures light { result.light ≡ light (S.means scheme.now) set.bits }
+    ensures dark { result.dark ≡ dark (S.means scheme.now) set.bits }
 {
     Levels {
         light: count_blacks(scheme, Colour::White, set),

@@ -16,7 +16,7 @@ returns c =
     let parts = c.new-maker.ensures.parts in
     record {
       strips = ap (λ out. Ok out) (strips-are _ _ _ _ c.row.new.out
-          (ap (λ x. all_of x.n) parts.0 ∙ ap all_of c.in-ok-new.ensures.made)
+          (ap (λ x. all_of x.n) parts.0 ∙ ap all_of c.in_ok-new.ensures.made)
           parts.2
           parts.3
           (c.new-maker.ensures.fresh ∙ ap fresh c.new-2.ensures.waits)

@@ -5,8 +5,8 @@ use Rattle.cards.proofs.reading.sets_of.Goals as goal
 
 pub loop-byte-preserved : goal.loop-byte-preserved
 loop-byte-preserved c =
-    numbers_push c.push.result _ _ _ c.from-bits.result c.args.bytes.now c.loop-byte.byte-index
-    c.push.ensures.items c.in-ok-push.was c.loop-byte.invariant c.from-bits.ensures (omega arith)
+    numbers_push c.push.result _ _ _ c.from_bits.result c.args.bytes.now c.loop-byte.byte-index
+    c.push.ensures.items c.in_ok-push.was c.loop-byte.invariant c.from_bits.ensures (omega arith)
 
 pub returns : goal.returns
 returns c = c.loop-byte.invariant ∙ take_all _ c.args.bytes.now (omega arith)

@@ -11,7 +11,7 @@ pub returns-then-front-sets : goal.returns-then-front-sets
 returns-then-front-sets c =
     let sets = numbers c.args.sets.now in
     let long = numbers_length c.args.sets.now in
-    let front = c.count-rising-front.ensures in
+    let front = c.count_rising-front.ensures in
     (λ i. Some (Format WrongSets (c.first_set_at.ensures i + front i)))
     ∙ sym (cond-true (ltb (rising_front sets) (length sets)) _ _ (lt-ltb (rising_front sets) (length sets) (omega arith)))
 
@@ -19,5 +19,5 @@ pub returns : goal.returns
 returns c =
     let sets = numbers c.args.sets.now in
     let long = numbers_length c.args.sets.now in
-    let front = c.count-rising-front.ensures in
+    let front = c.count_rising-front.ensures in
     sym (cond-false (ltb (rising_front sets) (length sets)) _ _ (le-ltb (rising_front sets) (length sets) (omega arith)))

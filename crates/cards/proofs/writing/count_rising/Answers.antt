@@ -5,10 +5,10 @@ use Rattle.cards.proofs.ContentsFacts.{numbers_length, numbers_at}
 use Rattle.cards.proofs.RisingFacts.{front_begins, front_of_none, front_again, front_found, front_whole}
 use Rattle.cards.proofs.writing.count_rising.Goals as goal
 
-pub returns-then-is-empty : goal.returns-then-is-empty
-returns-then-is-empty c =
+pub returns-then-is_empty : goal.returns-then-is_empty
+returns-then-is_empty c =
     let sets = c.args.sets.now in
-    front_of_none (numbers sets) (numbers_length sets ∙ eqb-true (length sets) 0 (sym c.if-is-empty.ensures))
+    front_of_none (numbers sets) (numbers_length sets ∙ eqb-true (length sets) 0 (sym c.if-is_empty.ensures))
 
 pub loop-front-init : goal.loop-front-init
 loop-front-init c =

@@ -7,7 +7,7 @@ use Rattle.cards.proofs.writing.push_numbers.Goals as goal
 pub loop-set-preserved : goal.loop-set-preserved
 loop-set-preserved c =
     push_number c.push.result _ (vec_items c.args.bytes.now) _ _ c.args.sets.now c.loop-set.set-index _ _
-    c.push.ensures.items c.in-ok-push.was c.loop-set.invariant c.bits.ensures (omega arith)
+    c.push.ensures.items c.in_ok-push.was c.loop-set.invariant c.bits.ensures (omega arith)
 
 pub returns : goal.returns
 returns c =

@@ -6,9 +6,9 @@ use Rattle.cards.proofs.ContentsFacts.{numbers_length}
 use Rattle.cards.proofs.LayoutFacts.{sets_pushed}
 use Rattle.cards.proofs.writing.push_sets.Goals as goal
 
-pub returns-in-ok-push : goal.returns-in-ok-push
-returns-in-ok-push c =
+pub returns-in_ok-push-in-Sets : goal.returns-in_ok-push-in-Sets
+returns-in_ok-push-in-Sets c =
     let sets = c.args.sets.now in
-    MatchResult-weaker c.push-numbers.result c.push-numbers.ensures
-    (λ _ e. sets_pushed c.args.kind (numbers sets) _ _ _ _ c.in-Sets.is c.in-ok-push.ensures.items (sym (numbers_length sets)) e)
+    MatchResult-weaker c.push_numbers.result c.push_numbers.ensures
+    (λ _ e. sets_pushed c.args.kind (numbers sets) _ _ _ _ c.in-Sets.is c.in_ok-push-in-Sets.ensures.items (sym (numbers_length sets)) e)
     (λ _ e. e)

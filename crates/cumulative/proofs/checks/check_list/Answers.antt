@@ -22,12 +22,12 @@ returns-in-Some c =
       proper = tt;
     }
 
-pub returns-in-Some-first-redundant : goal.returns-in-Some-first-redundant
-returns-in-Some-first-redundant c =
+pub returns-in-Some-first_redundant : goal.returns-in-Some-first_redundant
+returns-in-Some-first_redundant c =
     let sets = numbers c.args.sets.now in
     let long = numbers_length c.args.sets.now in
     record {
-      refusal = refused_redundant c.args.n sets (omega arith) (omega arith) (omega arith) (omega arith) c.in-default.ensures c.in-Some-first-redundant.place c.in-Some-first-redundant.ensures;
+      refusal = refused_redundant c.args.n sets (omega arith) (omega arith) (omega arith) (omega arith) c.in_default.ensures c.in-Some-first_redundant.place c.in-Some-first_redundant.ensures;
       proper = tt;
     }
 
@@ -36,6 +36,6 @@ returns c =
     let sets = numbers c.args.sets.now in
     let long = numbers_length c.args.sets.now in
     record {
-      refusal = passed_all c.args.n sets (omega arith) (omega arith) (omega arith) (omega arith) c.in-default.ensures c.in-default-first-redundant.ensures;
-      proper = sets_proper c.args.n sets (omega arith) (omega arith) (omega arith) (omega arith) c.in-default.ensures;
+      refusal = passed_all c.args.n sets (omega arith) (omega arith) (omega arith) (omega arith) c.in_default.ensures c.in_default-first_redundant.ensures;
+      proper = sets_proper c.args.n sets (omega arith) (omega arith) (omega arith) (omega arith) c.in_default.ensures;
     }

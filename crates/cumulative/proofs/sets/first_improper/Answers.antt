@@ -4,17 +4,17 @@ use Rattle.cumulative.specs.Making.{improper}
 use Rattle.cumulative.proofs.SetsFacts.{place_found, place_none, improper_at}
 use Rattle.cumulative.proofs.sets.first_improper.Goals as goal
 
-pub returns-then-is-improper : goal.returns-then-is-improper
-returns-then-is-improper c =
+pub returns-then-is_improper : goal.returns-then-is_improper
+returns-then-is_improper c =
     let sets = c.args.sets.now in
     place_found sets (improper c.args.n (numbers sets)) c.loop-i.i c.loop-i-test.true
-    (improper_at sets c.loop-i.i c.loop-i-test.true c.is-improper.result c.args.n c.is-improper.ensures ∙ c.if-is-improper.true) c.loop-i.invariant
+    (improper_at sets c.loop-i.i c.loop-i-test.true c.is_improper.result c.args.n c.is_improper.ensures ∙ c.if-is_improper.true) c.loop-i.invariant
 
 pub loop-i-preserved : goal.loop-i-preserved
 loop-i-preserved c =
     let sets = c.args.sets.now in
     below_more _ _ c.loop-i.invariant
-    (improper_at sets c.loop-i.i c.loop-i-test.true c.is-improper.result c.args.n c.is-improper.ensures ∙ c.if-is-improper.false)
+    (improper_at sets c.loop-i.i c.loop-i-test.true c.is_improper.result c.args.n c.is_improper.ensures ∙ c.if-is_improper.false)
 
 pub returns : goal.returns
 returns c =

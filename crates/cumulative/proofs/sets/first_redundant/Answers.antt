@@ -4,10 +4,10 @@ use Rattle.cumulative.specs.Making.{redundant}
 use Rattle.cumulative.proofs.SetsFacts.{place_found, place_none}
 use Rattle.cumulative.proofs.sets.first_redundant.Goals as goal
 
-pub returns-then-is-redundant : goal.returns-then-is-redundant
-returns-then-is-redundant c =
+pub returns-then-is_redundant : goal.returns-then-is_redundant
+returns-then-is_redundant c =
     let sets = c.args.sets.now in
-    place_found sets (redundant (numbers sets)) c.loop-i.i c.loop-i-test.true (sym c.is-redundant.ensures ∙ c.if-is-redundant.true) c.loop-i.invariant
+    place_found sets (redundant (numbers sets)) c.loop-i.i c.loop-i-test.true (sym c.is_redundant.ensures ∙ c.if-is_redundant.true) c.loop-i.invariant
 
 pub returns : goal.returns
 returns c = place_none c.args.sets.now (redundant (numbers c.args.sets.now)) c.loop-i.i c.loop-i-test.false c.loop-i.invariant

@@ -3,13 +3,13 @@ use Rattle.std.proofs.lemmas.Bool.{or_left}
 use Rattle.cumulative.proofs.SetsFacts.{empty_asked}
 use Rattle.cumulative.proofs.sets.is_improper.Goals as goal
 
-pub returns-then-is-empty : goal.returns-then-is-empty
-returns-then-is-empty c =
-    let e = empty_asked c.args.set.bits c.is-empty.result (omega arith) c.is-empty.ensures in
-    c.if-is-empty.true ∙ sym (or_left _ _ (e ∙ c.if-is-empty.true))
+pub returns-then-is_empty : goal.returns-then-is_empty
+returns-then-is_empty c =
+    let e = empty_asked c.args.set.bits c.is_empty.result (omega arith) c.is_empty.ensures in
+    c.if-is_empty.true ∙ sym (or_left _ _ (e ∙ c.if-is_empty.true))
 
-pub returns-else-is-empty : goal.returns-else-is-empty
-returns-else-is-empty c =
-    let e = empty_asked c.args.set.bits c.is-empty.result (omega arith) c.is-empty.ensures in
-    ap not c.is-among.ensures
-    ∙ sym (ap (λ (x : Bool). x || not (ltb c.args.set.bits (2 ^ c.args.n))) (e ∙ c.if-is-empty.false))
+pub returns-else-is_empty : goal.returns-else-is_empty
+returns-else-is_empty c =
+    let e = empty_asked c.args.set.bits c.is_empty.result (omega arith) c.is_empty.ensures in
+    ap not c.is_among.ensures
+    ∙ sym (ap (λ (x : Bool). x || not (ltb c.args.set.bits (2 ^ c.args.n))) (e ∙ c.if-is_empty.false))

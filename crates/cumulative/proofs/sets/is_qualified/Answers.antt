@@ -4,4 +4,4 @@ use Rattle.cumulative.proofs.SetsFacts.{first_qualifies}
 use Rattle.cumulative.proofs.sets.is_qualified.Goals as goal
 
 pub returns : goal.returns
-returns c = c.is-some.ensures ∙ ap is_some c.first-within.ensures ∙ first_qualifies (numbers c.args.minimal.now) c.args.set.bits
+returns c = c.is_some.ensures ∙ ap is_some c.first_within.ensures ∙ first_qualifies (numbers c.args.minimal.now) c.args.set.bits

@@ -6,11 +6,11 @@ use Rattle.films.proofs.minimal.is_minimal.Goals as goal
 pub returns-then-not-qualified : goal.returns-then-not-qualified
 returns-then-not-qualified g c = minimal_unqualified (g.S.Scheme.means c.args.scheme.now) c.args.set.bits (sym c.if-not-qualified.ensures)
 
-pub returns-then-is-qualified-part : goal.returns-then-is-qualified-part
-returns-then-is-qualified-part g c =
+pub returns-then-is_qualified_part : goal.returns-then-is_qualified_part
+returns-then-is_qualified_part g c =
     let s = g.S.Scheme.means c.args.scheme.now in
     minimal_not s c.args.set.bits c.loop-number.number (sym c.if-not-qualified.ensures) (omega arith)
-    (ap (is_qualified_part s c.args.set.bits) (sym c.from-bits.ensures) ∙ sym c.if-is-qualified-part.ensures)
+    (ap (is_qualified_part s c.args.set.bits) (sym c.from_bits.ensures) ∙ sym c.if-is_qualified_part.ensures)
 
 pub returns : goal.returns
 returns g c =

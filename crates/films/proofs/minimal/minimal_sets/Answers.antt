@@ -2,11 +2,11 @@ use Rattle.std.proofs.Common.{◌≡◌, ℕ, ◌+◌, Bool, true, false, List, 
 use Rattle.std.proofs.lemmas.List.{map_push}
 use Rattle.schemes.specs.declared.keyholders.KeyholderSet.{KeyholderSet}
 use Rattle.cumulative.specs.Access.{numbers, those_below}
-use Rattle.cumulative.proofs.ListedFacts.{list_none, list_yes, list_no}
+use Rattle.cumulative.specs.ListedFacts.{list_none, list_yes, list_no}
 use Rattle.films.specs.Minimal.{is_minimal, IsMinimalList, minimal_sets_of}
 use Rattle.films.proofs.MinimalFacts.{minimal_list}
 use Rattle.films.proofs.minimal.minimal_sets.Goals as goal
-use Rattle.films.proofs.minimal.minimal_sets.Goals.{then-is-minimal+in-ok-push, else-is-minimal}
+use Rattle.films.proofs.minimal.minimal_sets.Goals.{then-is_minimal+in_ok-push, else-is_minimal}
 
 pub loop-number-init : goal.loop-number-init
 loop-number-init g c = ap numbers c.new-sets.ensures.items ∙ sym (list_none (is_minimal (g.S.Scheme.means c.args.scheme.now)))
@@ -24,12 +24,12 @@ none_more test b set old is h t = h ∙ sym (list_no test b (ap test (sym is) �
 pub loop-number-preserved : goal.loop-number-preserved
 loop-number-preserved g c =
     let test = is_minimal (g.S.Scheme.means c.args.scheme.now) in
-    elim c.if-is-minimal.branch [
-      | then-is-minimal+in-ok-push w ↦
-          one_more test c.loop-number.number (vec_items c.loop-number.sets) _ c.from-bits-set.result c.from-bits-set.ensures c.loop-number.invariant
-          (ap vec_items w.sets-is ∙ w.in-ok-push.ensures.items) w.if-is-minimal.ensures
-      | else-is-minimal w ↦
-          none_more test c.loop-number.number c.from-bits-set.result.bits _ c.from-bits-set.ensures (ap (λ v. numbers (vec_items v)) w.sets-is ∙ c.loop-number.invariant) w.if-is-minimal.ensures
+    elim c.if-is_minimal.branch [
+      | then-is_minimal+in_ok-push w ↦
+          one_more test c.loop-number.number (vec_items c.loop-number.sets) _ c.from_bits-set.result c.from_bits-set.ensures c.loop-number.invariant
+          (ap vec_items w.sets-is ∙ w.in_ok-push.ensures.items) w.if-is_minimal.ensures
+      | else-is_minimal w ↦
+          none_more test c.loop-number.number c.from_bits-set.result.bits _ c.from_bits-set.ensures (ap (λ v. numbers (vec_items v)) w.sets-is ∙ c.loop-number.invariant) w.if-is_minimal.ensures
     ]
 
 pub returns : goal.returns

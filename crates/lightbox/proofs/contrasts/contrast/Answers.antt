@@ -10,5 +10,5 @@ returns g c =
     let lawful = g.met.S.Scheme.lawful scheme in
     let set = c.args.set.bits in
     let qualified : s.qualified set ≡ true = sym {b = s.qualified set} c.if-not-qualified.ensures in
-    rw (c.levels-of-light.ensures.light, c.levels-of-light.ensures.dark, c.columns.ensures)
+    rw (c.levels_of-light.ensures.light, c.levels_of-light.ensures.dark, c.columns.ensures)
     (record { answer = contrast_qualified s range lawful set qualified; levels = levels_distinct s range lawful set qualified })

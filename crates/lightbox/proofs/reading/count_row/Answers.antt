@@ -12,7 +12,7 @@ loop-c-init c =
 
 pub returns-then-blacks-light : goal.returns-then-blacks-light
 returns-then-blacks-light c =
-    let e = c.count-block-blacks.ensures in
+    let e = c.count_block-blacks.ensures in
     let z = c.fill-then-blacks-light.ensures.after (λ y e. e) in
     let long : length c.loop-c.out ≡ bytes_for c.args.w = c.loop-c.auto.out ∙ c.fill.ensures.len ∙ c.requires.long in (
       c.loop-c.c,
@@ -29,14 +29,14 @@ loop-c-preserved c =
     let w = c.args.w in
     let glass = c.args.glass.now in
     let n = c.loop-c.c in
-    let e = sym c.count-block-blacks.ensures in
+    let e = sym c.count_block-blacks.ensures in
     elim c.if-blacks-dark.branch [
       | then-blacks-dark t ↦
           let long : length c.loop-c.out ≡ bytes_for w = c.loop-c.auto.out ∙ c.fill.ensures.len ∙ c.requires.long in
           subst (ReadSoFar m light dark w glass (n + 1)) (sym t.out-is)
-          (black_read m light dark w glass n c.loop-c.out t.set-bit.new.row (omega arith) c.loop-c.invariant (e ∙ t.if-blacks-dark.true) t.set-bit.ensures.bits (t.set-bit.ensures.bytes c.loop-c.invariant.below))
+          (black_read m light dark w glass n c.loop-c.out t.set_bit.new.row (omega arith) c.loop-c.invariant (e ∙ t.if-blacks-dark.true) t.set_bit.ensures.bits (t.set_bit.ensures.bytes c.loop-c.invariant.below))
       | else-blacks-dark+else-blacks-light t ↦
-          let f : c.count-block-blacks.result ≡ light = omega (arith, t.if-blacks-light.false) in
+          let f : c.count_block-blacks.result ≡ light = omega (arith, t.if-blacks-light.false) in
           subst (ReadSoFar m light dark w glass (n + 1)) (sym t.out-is) (white_read m light dark w glass n c.loop-c.out c.loop-c.invariant (e ∙ f))
     ]
 

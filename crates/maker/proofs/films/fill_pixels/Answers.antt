@@ -10,14 +10,14 @@ loop-x-init g c =
     let s = g.S.Scheme.means c.args.scheme.now in
     rw c.requires.out (filling_none s c.args.row.width c.args.row.size c.args.row.pixels.now (g.T.Tape.bytes c.args.tape.now) (s.n * c.args.row.size))
 
-pub returns-then-not-draw-block : goal.returns-then-not-draw-block
-returns-then-not-draw-block g c =
+pub returns-then-not-draw_block : goal.returns-then-not-draw_block
+returns-then-not-draw_block g c =
     let s = g.S.Scheme.means c.args.scheme.now in
-    let in-range = g.met.S.Scheme.in_range c.args.scheme.now in
+    let in_range = g.met.S.Scheme.in_range c.args.scheme.now in
     let rest = g.T.Tape.bytes c.loop-x.tape in
     let long : length c.loop-x.work ≡ s.m = c.loop-x.auto.work ∙ c.requires.work in
-    let ran = order_short c.loop-x.work rest (omega arith) (omega arith) c.draw-block.new.order (g.T.Tape.bytes c.draw-block.new.tape)
-    c.draw-block.result c.draw-block.ensures.answers c.draw-block.ensures.holds c.draw-block.ensures.leaves c.if-not-draw-block.true in
+    let ran = order_short c.loop-x.work rest (omega arith) (omega arith) c.draw_block.new.order (g.T.Tape.bytes c.draw_block.new.tape)
+    c.draw_block.result c.draw_block.ensures.answers c.draw_block.ensures.holds c.draw_block.ensures.leaves c.if-not-draw_block.true in
     record {
       draws =
           filling_short s c.args.row.width c.args.row.size c.args.row.pixels.now (g.T.Tape.bytes c.args.tape.now) c.loop-x.x c.loop-x.start rest c.loop-x.out c.loop-x.invariant (omega arith)
@@ -25,28 +25,28 @@ returns-then-not-draw-block g c =
       none = ran.1;
     }
 
-pub set-block-requires : goal.set-block-requires
-set-block-requires g c =
+pub set_block-requires : goal.set_block-requires
+set_block-requires g c =
     let s = g.S.Scheme.means c.args.scheme.now in
-    let in-range = g.met.S.Scheme.in_range c.args.scheme.now in
+    let in_range = g.met.S.Scheme.in_range c.args.scheme.now in
     let n = c.keyholders-n.ensures in
     let work : length c.loop-x.work ≡ s.m = c.loop-x.auto.work ∙ c.requires.work in
     let within = block_within s.m c.args.row.width c.args.row.size c.loop-x.x c.loop-x.start c.loop-x.invariant.from (omega arith) c.requires.size in
-    let table : s.m ≤ length c.for-pixel-table.result.now =
-    subst (λ t. s.m ≤ length t) (sym c.for-pixel-table.ensures) (table_of s c.bit-at.result c.args.tables.now.white c.args.tables.now.black c.requires.tables.white_cells c.requires.tables.black_cells).size in
+    let table : s.m ≤ length c.for_pixel-table.result.now =
+    subst (λ t. s.m ≤ length t) (sym c.for_pixel-table.ensures) (table_of s c.bit_at.result c.args.tables.now.white c.args.tables.now.black c.requires.tables.white_cells c.requires.tables.black_cells).size in
     record {
       out = c.loop-x.auto.out ∙ ap length c.requires.out ∙ length-replicate (s.n * c.args.row.size) 0 ∙ ap (λ k. k * c.args.row.size) (sym n);
-      place = omega (arith, c.draw-block.auto.order);
-      few = omega (arith, n, in-range.few_keyholders);
+      place = omega (arith, c.draw_block.auto.order);
+      few = omega (arith, n, in_range.few_keyholders);
       short = size_few s.m c.args.row.width c.args.row.size c.requires.size c.requires.squares;
       columns =
-          below_wide (length c.loop-x.work) (length c.for-pixel-table.result.now) c.draw-block.new.order (omega arith)
-          (order_columns c.loop-x.work (g.T.Tape.bytes c.loop-x.tape) (omega arith) (omega arith) c.draw-block.new.order (g.T.Tape.bytes c.draw-block.new.tape)
-          c.draw-block.result c.draw-block.ensures.answers c.draw-block.ensures.holds c.draw-block.ensures.leaves c.if-not-draw-block.false);
+          below_wide (length c.loop-x.work) (length c.for_pixel-table.result.now) c.draw_block.new.order (omega arith)
+          (order_columns c.loop-x.work (g.T.Tape.bytes c.loop-x.tape) (omega arith) (omega arith) c.draw_block.new.order (g.T.Tape.bytes c.draw_block.new.tape)
+          c.draw_block.result c.draw_block.ensures.answers c.draw_block.ensures.holds c.draw_block.ensures.leaves c.if-not-draw_block.false);
     }
 
-pub overflow-add-start : goal.overflow-add-start
-overflow-add-start g c =
+pub overflow_add-start : goal.overflow_add-start
+overflow_add-start g c =
     let s = g.S.Scheme.means c.args.scheme.now in
     let few = size_few s.m c.args.row.width c.args.row.size c.requires.size c.requires.squares in
     let within = block_within s.m c.args.row.width c.args.row.size c.loop-x.x c.loop-x.start c.loop-x.invariant.from (omega arith) c.requires.size in
@@ -55,23 +55,23 @@ overflow-add-start g c =
 pub loop-x-preserved : goal.loop-x-preserved
 loop-x-preserved g c =
     let s = g.S.Scheme.means c.args.scheme.now in
-    let in-range = g.met.S.Scheme.in_range c.args.scheme.now in
+    let in_range = g.met.S.Scheme.in_range c.args.scheme.now in
     let work : length c.loop-x.work ≡ s.m = c.loop-x.auto.work ∙ c.requires.work in
     let rest = g.T.Tape.bytes c.loop-x.tape in
-    let rest' = g.T.Tape.bytes c.draw-block.new.tape in
-    let o = c.draw-block.new.order in
+    let rest' = g.T.Tape.bytes c.draw_block.new.tape in
+    let o = c.draw_block.new.order in
     let least : 1 ≤ length c.loop-x.work = omega arith in
     let most : length c.loop-x.work ≤ 128 = omega arith in
-    let ensured = c.draw-block.ensures in
-    let some = c.if-not-draw-block.false in
+    let ensured = c.draw_block.ensures in
+    let some = c.if-not-draw_block.false in
     filling_on s c.args.row.width c.args.row.size c.args.row.pixels.now (g.T.Tape.bytes c.args.tape.now) c.loop-x.x c.loop-x.start
-    (length c.args.work.now) (length c.loop-x.work) c.keyholders-n.result rest c.loop-x.out o rest' c.set-block.new.out
-    c.args.tables.now.white c.args.tables.now.black c.for-pixel-table.result.now c.bit-at.result
-    c.requires.work work c.keyholders-n.ensures c.bit-at.ensures c.requires.tables.white_cells c.requires.tables.black_cells c.for-pixel-table.ensures
-    c.loop-x.invariant (omega arith) in-range.some_column
-    (order_drawn c.loop-x.work rest least most o rest' c.draw-block.result ensured.answers ensured.holds ensured.leaves some)
-    (order_columns c.loop-x.work rest least most o rest' c.draw-block.result ensured.answers ensured.holds ensured.leaves some)
-    c.draw-block.auto.order c.set-block.ensures
+    (length c.args.work.now) (length c.loop-x.work) c.keyholders-n.result rest c.loop-x.out o rest' c.set_block.new.out
+    c.args.tables.now.white c.args.tables.now.black c.for_pixel-table.result.now c.bit_at.result
+    c.requires.work work c.keyholders-n.ensures c.bit_at.ensures c.requires.tables.white_cells c.requires.tables.black_cells c.for_pixel-table.ensures
+    c.loop-x.invariant (omega arith) in_range.some_column
+    (order_drawn c.loop-x.work rest least most o rest' c.draw_block.result ensured.answers ensured.holds ensured.leaves some)
+    (order_columns c.loop-x.work rest least most o rest' c.draw_block.result ensured.answers ensured.holds ensured.leaves some)
+    c.draw_block.auto.order c.set_block.ensures
 
 pub returns : goal.returns
 returns g c =

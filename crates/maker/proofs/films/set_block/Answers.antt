@@ -10,7 +10,7 @@ pub bounds-table-order : goal.bounds-table-order
 bounds-table-order c = All-get_or (λ j. j < length c.args.table.now) c.args.order.now c.loop-p.p 0 (omega arith) c.requires.columns
 
 pub loop-p-preserved : goal.loop-p-preserved
-loop-p-preserved c = block_more c.args.table.now c.args.order.now c.args.n c.args.size c.args.start c.args.out.now c.loop-p.p c.loop-p.out c.set-square.new.out c.loop-p.invariant c.set-square.ensures
+loop-p-preserved c = block_more c.args.table.now c.args.order.now c.args.n c.args.size c.args.start c.args.out.now c.loop-p.p c.loop-p.out c.set_square.new.out c.loop-p.invariant c.set_square.ensures
 
 pub returns : goal.returns
 returns c =

@@ -3,8 +3,8 @@ use Rattle.std.proofs.lemmas.List.{length-take-le}
 use Rattle.maker.proofs.Outputs.{first_part, other_part, cleared_again}
 use Rattle.maker.proofs.films.write_films.Goals as goal
 
-pub fill-pixels-filled-requires : goal.fill-pixels-filled-requires
-fill-pixels-filled-requires g c =
+pub fill_pixels-filled-requires : goal.fill_pixels-filled-requires
+fill_pixels-filled-requires g c =
     let s = g.S.Scheme.means c.args.scheme.now in
     let n = c.from.ensures ∙ c.keyholders.ensures in
     let m : c.from-m.result - 0 ≡ s.m = omega (arith, c.from-m.ensures, c.columns.ensures) in
@@ -33,5 +33,5 @@ returns-then-not-filled g c =
     let total = ap₂ (λ k z. k * z) n c.requires.size in
     record {
       runs_short = c.if-not-filled.ensures;
-      zeros = cleared_again _ _ total c.args.out.now c.clear.new.out c.clear.ensures c.fill-pixels-filled.new.out c.fill-pixels-filled.auto.out c.clear-then-not-filled.new.out c.clear-then-not-filled.ensures;
+      zeros = cleared_again _ _ total c.args.out.now c.clear.new.out c.clear.ensures c.fill_pixels-filled.new.out c.fill_pixels-filled.auto.out c.clear-then-not-filled.new.out c.clear-then-not-filled.ensures;
     }

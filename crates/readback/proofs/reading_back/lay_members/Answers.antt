@@ -2,7 +2,7 @@ use Rattle.std.proofs.Common.{◌≡◌, ◌+◌, ◌-◌, ◌*◌, length, take
 use Rattle.lightbox.specs.Laying.{laid}
 use Rattle.readback.proofs.MemberStrips.{stack_member, stack_other}
 use Rattle.readback.proofs.reading_back.lay_members.Goals as goal
-use Rattle.readback.proofs.reading_back.lay_members.Goals.{then-has+in-ok-lay, else-has}
+use Rattle.readback.proofs.reading_back.lay_members.Goals.{then-has+in_ok-lay, else-has}
 
 pub loop-k-preserved : goal.loop-k-preserved
 loop-k-preserved c =
@@ -11,7 +11,7 @@ loop-k-preserved c =
     let films = c.args.films.now in
     let k = c.loop-k.k in
     elim c.if-has.branch [
-      | then-has+in-ok-lay t ↦
+      | then-has+in_ok-lay t ↦
           let start = t.from-then-has.result * size in
           let long : start + size - start ≡ size = omega arith in
           let there : start ≡ k * size = ap (λ j. j * size) t.from-then-has.ensures in

@@ -9,4 +9,4 @@ returns-then-keyholder-lt1 c = elim c.then-keyholder-lt1.either [
 ]
 
 pub returns : goal.returns
-returns c = c.has-bit.ensures ∙ member_bit c.args.bits c.args.keyholder (omega arith)
+returns c = c.has_bit.ensures ∙ member_bit c.args.bits c.args.keyholder (omega arith)

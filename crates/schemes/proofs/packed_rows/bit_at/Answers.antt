@@ -6,4 +6,4 @@ pub returns-then-k-row : goal.returns-then-k-row
 returns-then-k-row c = sym (bit_at_past c.args.row.now c.args.k (omega arith))
 
 pub returns : goal.returns
-returns c = c.read-bit.ensures ∙ bit_at_is c.args.row.now c.args.k
+returns c = c.read_bit.ensures ∙ bit_at_is c.args.row.now c.args.k

@@ -4,7 +4,7 @@ use Rattle.schemes.proofs.packed_rows.set_bit.Goals as goal
 
 pub returns-then-k-row : goal.returns-then-k-row
 returns-then-k-row c =
-    rw c.mark-bit.ensures
+    rw c.mark_bit.ensures
     (record {
       bits = bit_set c.args.row.now c.args.k (omega arith);
       bytes = bytes_set c.args.row.now c.args.k (omega arith);

@@ -1,6 +1,6 @@
 use Rattle.std.proofs.Common.{◌≡◌, ℕ, ◌-◌, take, vec_items, sym, ap, ◌∙◌, subst, arith}
 use Rattle.cumulative.specs.Access.{numbers, IsForbiddenList}
-use Rattle.cumulative.proofs.AccessFacts.{forbidden_list}
+use Rattle.cumulative.specs.AccessFacts.{forbidden_list}
 use Rattle.cumulative.proofs.cumulative.Cumulative.forbidden_sets.Goals as goal
 
 pub returns : goal.returns

@@ -4,7 +4,7 @@ use Rattle.schemes.specs.TestFacts.{any_true, any_next, any_end}
 use Rattle.cumulative.specs.Access.{numbers, forbidden_sets}
 use Rattle.cumulative.specs.Cumulative.{all_row}
 use Rattle.cumulative.specs.Records.{in_record}
-use Rattle.cumulative.proofs.CumulativeFacts.{has_row, row_asked, cell_by_record}
+use Rattle.cumulative.specs.CumulativeFacts.{has_row, row_asked, cell_by_record}
 use Rattle.cumulative.proofs.cumulative.CumulativeScheme.cell.Goals as goal
 use Rattle.cumulative.proofs.cumulative.CumulativeScheme.cell.Goals.{else-has-via-then-has+else-cell, else-has-via-else-has}
 

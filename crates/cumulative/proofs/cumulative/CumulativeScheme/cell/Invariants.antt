@@ -1,7 +1,7 @@
 use Rattle.std.proofs.Common.{◌≡◌, false, vec_items}
 use Rattle.schemes.specs.Bits.{any_below}
 use Rattle.cumulative.specs.Access.{numbers, forbidden_sets}
-use Rattle.cumulative.proofs.CumulativeFacts.{has_row}
+use Rattle.cumulative.specs.CumulativeFacts.{has_row}
 use Rattle.cumulative.proofs.cumulative.CumulativeScheme.cell.Given as goal
 
 abbrev pub invariant-loop-q : goal.invariant-loop-q

@@ -16,7 +16,7 @@ use Rattle.cumulative.specs.Access.{qualifies, forbidden_sets}
 use Rattle.cumulative.specs.Cumulative.{all_row, film_row, cumulative, LevelsOfSets, OpensToQualified}
 use Rattle.cumulative.specs.Records.{noted, lacks, in_record, Kept}
 use Rattle.cumulative.specs.Making.{ProperSets}
-use Rattle.cumulative.proofs.AccessFacts.{qualifies_decided, qualifies_more, covered, outside, everyone_qualifies, some_forbidden}
+use Rattle.cumulative.specs.AccessFacts.{qualifies_decided, qualifies_more, covered, outside, everyone_qualifies, some_forbidden}
 
 -- ---- the rows of all of t
 
@@ -179,3 +179,8 @@ cell_by_record n minimal c i j = go i (cases_lt j (2 ^ (length F - 1)))
 -- what all of t answers for row q
 pub row_asked : (t : ℕ) (F : List ℕ) (c : Colour) (j q : ℕ) (answer : Bool) → length F ≡ t → answer ≡ (all_of t).cell c (q + 1) j → all_row (length F) c q j ≡ answer
 row_asked t F c j q answer e h = ap (λ (x : ℕ). all_row x c q j) e ∙ ap (λ (x : ℕ). (all_of t).cell c x j) (sym (add-one q)) ∙ sym h
+
+-- ---- the records that a scheme has
+
+pub few_forbidden : (forbidden : List ℕ) (t : ℕ) → length forbidden ≡ t → t ≤ most_keyholders → length forbidden ≤ most_keyholders
+few_forbidden forbidden t e l = omega arith

@@ -10,7 +10,7 @@ use Rattle.schemes.specs.TestFacts.{any_true, any_false, any_find, any_none, loo
 use Rattle.schemes.specs.BitFacts.{bit-and, bit-or, bit_pow, bit_full, bit_past, bit_same}
 use Rattle.cumulative.specs.Access.{subset, qualifies, can_grow_to, maximal, forbidden_sets, Qualified, MaximalForbidden, IsForbiddenList}
 use Rattle.cumulative.specs.Making.{improper, ProperSets}
-use Rattle.cumulative.proofs.ListedFacts.{listed, list_passes, list_rising}
+use Rattle.cumulative.specs.ListedFacts.{listed, list_passes, list_rising}
 
 -- ---- sets within sets
 
