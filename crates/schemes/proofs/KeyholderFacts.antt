@@ -1,8 +1,8 @@
 -- Sets of keyholders, by the tests on their numbers that the code makes.
 use Rattle.std.proofs.Common.{◌≡◌, ℕ, zero, suc, ◌+◌, ◌-◌, ◌^◌, ◌<◌, ◌≤◌, min, Bool, true, false, ◌&&◌, ◌||◌, eqb, ltb, leb, Decides, sym, refl, ap, ◌∙◌, inl, inr, add-one, arith, pow_pos, pow_mono}
-use lib.Bits.{bit_and, bit_or, and_lt}
-use lib.Count.{ones}
-use lib.Dec.{eqb-suc-suc}
+use Rattle.std.specs.Prelude.{count_ones}
+use Rattle.std.specs.Int.Bits.{bit_and, bit_or, and_lt}
+use Rattle.std.proofs.Math.Dec.{eqb-suc-suc}
 use Rattle.std.proofs.lemmas.Bool.{cases_lt, eqb-true, eq-eqb, ne_eqb, and_parts, and_from, and_left, and_right}
 use Rattle.std.proofs.lemmas.Bool.Decides.{nat_tests}
 use Rattle.schemes.specs.Bits.{bit, any_below}
@@ -75,7 +75,7 @@ among_decided n set p = elim (cases_lt n most_keyholders) [
 ]
 
 -- how many members there are
-pub ones_size : (set : ℕ) → set < 2 ^ most_keyholders → ones set ≡ size set
+pub ones_size : (set : ℕ) → set < 2 ^ most_keyholders → count_ones set ≡ size set
 ones_size set p = ones_counted most_keyholders set p
 
 -- none of them is above n in a set of keyholders 1 to n

@@ -20,7 +20,7 @@ pub record InRange (s : Meaning) : Type 0 where
   pub column_above : (c : Colour) (i j : ℕ) → s.m ≤ j → s.cell c i j ≡ false
   pub set_above : (set : ℕ) → (Among s.n set → ⊥) → s.qualified set ≡ false
 
--- A one_to_one renumbering of the columns 0 to m - 1, with its inverse.
+-- A one-to-one renumbering of the columns 0 to m - 1, with its inverse.
 pub record Renumbering (m : ℕ) : Type 0 where
   pub to : ℕ → ℕ
   pub from : ℕ → ℕ

@@ -1,3 +1,4 @@
+pub mod Runs
 pub mod Drawing
 pub mod Counts
 pub mod Spellings

@@ -5,4 +5,3 @@ pub mod Orders
 pub mod Permutations
 pub mod Blocks
 pub mod Worked
-pub mod Runs

@@ -63,9 +63,10 @@ fn spelled(byte: u8, base: Base) -> Option<u8>
 
 // Draws a digit: the first byte below 256 - 256 % base, mod the base. Bytes before it are thrown away.
 // At the tape's end `None`, and the tape is empty.
+#[tactic(auto, using(crate::proofs::Spellings::fair))]
 pub fn draw_digit<T: Tape>(tape: &mut T, base: Base) -> Option<u8>
-    ensures answers { result ≡ value_of (digit base.value (bytes tape.old)) }
-    ensures leaves { bytes tape.new ≡ rest_of (digit base.value (bytes tape.old)) }
+    ensures answers { result ≡ value_of (digit base.value (T.bytes tape.old)) }
+    ensures leaves { T.bytes tape.new ≡ rest_of (digit base.value (T.bytes tape.old)) }
     ensures fair { Fair base.value }
 {
     loop {

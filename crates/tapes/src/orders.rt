@@ -30,6 +30,7 @@ fn select(test: bool, a: u8, b: u8) -> u8
 }
 
 // Brings the column at a place to the front. Every place is written, whatever the digit, so that no branch depends on it.
+#[tactic(auto, using(crate::proofs::Forward::forward_all))]
 fn bring_forward(remaining: &mut [u8], place: usize)
     requires { place < length remaining.old }
     ensures { remaining.new ≡ slice_index remaining.old place ∷ remove remaining.old place }
@@ -54,7 +55,7 @@ fn take_column(order: &mut [u8], taken: usize, place: usize)
 fn arrange<T: Tape>(tape: &mut T, order: &mut [u8]) -> Option<()>
     requires least { 1 ≤ length order.old }
     requires most { length order.old ≤ 128 }
-    ensures { DrawnInPlace (arranging (length order.old) order.old (bytes tape.old)) result order.new (bytes tape.new) }
+    ensures { DrawnInPlace (arranging (length order.old) order.old (T.bytes tape.old)) result order.new (T.bytes tape.new) }
 {
     for taken in 0..order.len() - 1 {
         let base = Base::known((order.len() - taken) as u8);
@@ -67,10 +68,11 @@ fn arrange<T: Tape>(tape: &mut T, order: &mut [u8]) -> Option<()>
 // Draws the order of a block into a slice of one byte for each of its columns, 1 to 128.
 // A slice of any other length is no block: `None`, no byte is taken, and the slice is unchanged.
 // At the tape's end `None`, the tape is empty, and the slice is all 0.
+#[tactic(auto, using(crate::proofs::Permutations::one_to_one))]
 pub fn draw_order<T: Tape>(tape: &mut T, order: &mut [u8]) -> Option<()>
-    ensures answers { result ≡ (outcome order.old (bytes tape.old)).answer }
-    ensures slice { order.new ≡ (outcome order.old (bytes tape.old)).slice }
-    ensures leaves { bytes tape.new ≡ (outcome order.old (bytes tape.old)).waiting }
+    ensures answers { result ≡ (outcome order.old (T.bytes tape.old)).answer }
+    ensures slice { order.new ≡ (outcome order.old (T.bytes tape.old)).slice }
+    ensures leaves { T.bytes tape.new ≡ (outcome order.old (T.bytes tape.old)).waiting }
     ensures permutation { result ≡ Some tt → Permutation (length order.old) order.new }
     ensures bijection { OneToOne (length order.old) }
 {

@@ -1,7 +1,9 @@
 // The practice tape: an arithmetic run of bytes, for trials that anybody can repeat.
-ghost use Rattle.std.specs.Prelude.{◌≡◌};
+ghost use Rattle.std.specs.Prelude.{◌≡◌, ◌<◌};
+ghost use Rattle.std.proofs.Common.{rules};
+ghost use Rattle.std.proofs.ByRecursion.{All-map, All-from_get_or};
+ghost use Rattle.std.proofs.lemmas.Nat.{mod_below};
 ghost use Rattle.tapes.specs.Tapes.{arithmetic_run};
-ghost use Rattle.tapes.specs.Runs.{run_below};
 
 use crate::Tape;
 
@@ -25,8 +27,9 @@ impl PracticeTape {
 impl Tape for PracticeTape {
     ghost bytes = { λ t. arithmetic_run t.byte t.step t.count };
 
-    ghost below = { λ t. run_below t.byte t.step t.count };
+    ghost below = { λ t. All-map (λ b. b < 256) _ _ (All-from_get_or _ _ 0 (λ k _. mod_below _ 256 (Prim.search rules))) };
 
+    #[tactic(auto, using(crate::proofs::Runs::run_next))]
     fn next(&mut self) -> Option<u8> {
         if self.count == 0 {
             return None;
@@ -37,6 +40,7 @@ impl Tape for PracticeTape {
         Some(byte)
     }
 
+    #[tactic(auto, using(crate::proofs::Runs::run_length))]
     fn waiting(&self) -> usize {
         self.count as usize
     }
