@@ -1,8 +1,8 @@
 -- A file is opened exactly where the grammar has it, with the w, h and rows of the grammar. Serves the clause `grammar` of `open`.
 -- Assumes nothing.
-use Rattle.std.proofs.Common.{◌≡◌, ℕ, ◌+◌, ◌-◌, ◌*◌, ◌<◌, ◌≤◌, Bool, true, false, cond, not, ◌&&◌, ◌||◌, eqb, ltb, leb, ◌⊎◌, List, [], ◌∷◌, ◌++◌, length, drop, sym, refl, ap, ◌∙◌, subst, inl, inr, ⊎_elim, append_assoc, arith, length-append}
-use Rattle.std.specs.List.{AllByRecursion as All}
-use Rattle.std.proofs.lemmas.Bool.{cond-true, cond-false, cases_Bool, or_cases, or_parts, or_left, or_right, or_from, and_parts, and_from, eqb-true, eqb-false, eq-eqb, ne_eqb, le-leb, lt-leb, leb-true, leb-false, le-ltb, ltb-false}
+use Rattle.std.proofs.Common.{◌≡◌, ℕ, ◌+◌, ◌-◌, ◌*◌, ◌<◌, ◌≤◌, Bool, true, false, ◌&&◌, ◌||◌, eqb, ltb, leb, List, [], ◌∷◌, ◌++◌, length, sym, refl, ap, ◌∙◌, subst, inl, inr, ⊎_elim, append_assoc, arith, length-append}
+use Rattle.std.specs.List.{AllByRecursion}
+use Rattle.std.proofs.lemmas.Bool.{cond-true, cond-false, cases_Bool, or_cases, or_left, or_right, and_parts, and_from, eqb-true, eqb-false, eq-eqb, ne_eqb, le-leb, leb-true, le-ltb, ltb-false}
 use Rattle.std.proofs.lemmas.Bool.Decides.{nat_tests}
 use Rattle.pictures.specs.Reading.{Read, got, fault, ◌⟫◌, is_white_byte, is_digit_byte, magic, blank, gap, digits, number, white, all_rows, opened}
 use Rattle.pictures.proofs.Steps.{go}
@@ -38,7 +38,7 @@ record Skips (s t : List ℕ) : Type 0 where
 record Closes (s t : List ℕ) : Type 0 where
   inside : List ℕ
   front : List ℕ
-  free : All (λ b. b ≡ 10 → ⊥) inside
+  free : AllByRecursion (λ b. b ≡ 10 → ⊥) inside
   is : Blank front
   bytes : s ≡ inside ++ (10 ∷ (front ++ t))
 
@@ -237,7 +237,7 @@ stop_here : (t : List ℕ) → Stops t → blank false t ≡ got tt t
 stop_here [] h = absurd h
 stop_here (b ∷ t) h = cond-false _ _ _ h.0 ∙ cond-false _ _ _ h.1
 
-through_comment : (c s : List ℕ) → All (λ b. b ≡ 10 → ⊥) c → blank true (c ++ (10 ∷ s)) ≡ blank false s
+through_comment : (c s : List ℕ) → AllByRecursion (λ b. b ≡ 10 → ⊥) c → blank true (c ++ (10 ∷ s)) ≡ blank false s
 through_comment [] s h = refl
 through_comment (b ∷ c) s h = cond-false _ _ _ (ne_eqb b 10 h.0) ∙ through_comment c s h.1
 

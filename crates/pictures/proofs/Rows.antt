@@ -1,5 +1,5 @@
 -- The rows of a picture that was opened are all there. Serves the clause `every_row` of `open`. Assumes nothing.
-use Rattle.std.proofs.Common.{◌≡◌, ℕ, ◌+◌, ◌*◌, ◌<◌, ◌≤◌, List, length, drop, sym, ap, ◌∙◌, mul-le-mul_right, add-mul, one-mul, arith, length-drop}
+use Rattle.std.proofs.Common.{ℕ, ◌+◌, ◌*◌, ◌<◌, ◌≤◌, List, length, drop, mul-le-mul_right, add-mul, one-mul, arith, length-drop}
 use Rattle.std.proofs.lemmas.List.{length-take-le}
 use Rattle.std.proofs.lemmas.Bool.{cond-true, and_from, lt-ltb, le-leb}
 use Rattle.pictures.specs.Rows.{row_bytes, RowsFit, EveryRow}

@@ -39,9 +39,9 @@ fn opened(rt: HostRuntime) -> Result<(), Fail> {
     assert_eq!(rt; fault(b"P4#9 9\n#\n 8\r#\r8\n#\n1\tx"), (0, 0));
     let picture = open(b"P4\n# a comment\n0009 \n002\nabcd")?;
     assert_eq!(rt; (picture.width(), picture.height()), (9, 2));
-    assert!(rt; picture.rows() == b"abcd");
-    assert!(rt; picture.row(0)? == b"ab");
-    assert!(rt; picture.row(1)? == b"cd");
+    assert!(rt; picture.rows() == b"abcd".as_slice());
+    assert!(rt; picture.row(0)? == b"ab".as_slice());
+    assert!(rt; picture.row(1)? == b"cd".as_slice());
     let none = PictureFault {
         refusal: PictureRefusal::NoSuchRow,
         place: 0,
