@@ -1,6 +1,6 @@
 -- What the answer of `draw_block` says to a caller with a slice of 1 to 128 bytes. For `fill_pixels`.
 use Rattle.std.proofs.Common.{◌≡◌, ℕ, ◌<◌, ◌≤◌, Bool, true, false, List, [], length, is_some, Some, None, Option, sym, refl, ◌∙◌, arith}
-use Rattle.std.specs.List.{AllByRecursion as All}
+use Rattle.std.specs.List.{AllByRecursion}
 use Rattle.tapes.specs.Blocks.{outcome}
 use Rattle.tapes.specs.Drawing.{Drawn, short, drawn, DrawnInPlace}
 use Rattle.tapes.specs.Orders.{order}
@@ -29,5 +29,5 @@ module _ (before tape : List ℕ) (least : 1 ≤ length before) (most : length b
   pub order_short : drew ≡ false → (order m tape ≡ short) × (rest ≡ [])
   order_short e = when_short (order m tape) (outcome before tape).answer slice rest (sym answers ∙ e) in_place
 
-  pub order_columns : drew ≡ true → All (λ j. j < m) slice
+  pub order_columns : drew ≡ true → AllByRecursion (λ j. j < m) slice
   order_columns e = order_within m tape slice rest (order_drawn e)

@@ -1,6 +1,6 @@
 -- Two runs whose calls differ only in the secret rows can be paired so that a set that is not qualified sees the same: the
 -- law's `Conceals`.
-use Rattle.std.proofs.Common.{◌≡◌, ℕ, zero, suc, ◌-◌, ◌<◌, ◌≤◌, true, false, List, [], ◌∷◌, ◌++◌, length, drop, Some, None, Option, sym, refl, ap, ◌∙◌, subst, arith}
+use Rattle.std.proofs.Common.{◌≡◌, ℕ, zero, suc, ◌-◌, ◌<◌, ◌≤◌, true, List, [], ◌∷◌, ◌++◌, length, drop, Some, None, Option, sym, refl, ap, ◌∙◌, subst}
 use Rattle.std.specs.List.{AllZip}
 use Rattle.std.proofs.lemmas.List.{nil_from_length}
 use Rattle.std.proofs.lemmas.Bool.{true≢false}
@@ -11,8 +11,8 @@ use Rattle.schemes.specs.Strips.{strip_size, strip_in, pixel}
 use Rattle.tapes.specs.Drawing.{Drawn, short, drawn}
 use Rattle.tapes.specs.Orders.{orders}
 use Rattle.maker.specs.Films.{films_size, strips_of}
-use Rattle.maker.specs.Runs.{State, on_tape, row_more, row_spoiled, Call, row, spoil, tally, tallied, Outcome, Event, row_drawn, row_refusal, row_outcome, spoil_refusal, spoil_outcome, outcome}
-use Rattle.maker.specs.Law.{SameButSecrets, SameToSet, Indistinct}
+use Rattle.maker.specs.Runs.{State, on_tape, row_more, row_spoiled, Call, row, spoil, tally, tallied, Outcome, row_drawn, row_refusal, row_outcome, spoil_refusal, spoil_outcome, outcome}
+use Rattle.maker.specs.Law.{SameButSecrets, Indistinct}
 use Rattle.maker.proofs.Shuffles.{Shuffle, unmoved}
 use Rattle.maker.proofs.Couplings.{Together}
 use Rattle.maker.proofs.OrderCouplings.{Blocks, orders_coupled}

@@ -1,6 +1,6 @@
 -- A row is filled pixel by pixel: how far the orders are drawn, and which bits of the strips are set. For `fill_pixels`.
 use Rattle.std.proofs.Common.{◌≡◌, ℕ, zero, suc, ◌+◌, ◌-◌, ◌*◌, ◌/◌, ◌%◌, ◌<◌, ◌≤◌, Bool, true, false, cond, ◌&&◌, ◌||◌, ltb, leb, ◌⊎◌, List, [], ◌∷◌, ◌++◌, length, get_or, take, drop, replicate, sym, refl, ap, ◌∙◌, subst, ap₂, inl, inr, mul-le-mul_right, arith}
-use Rattle.std.specs.List.{range_with_len, flat_map, AllByRecursion as All}
+use Rattle.std.specs.List.{range_with_len, flat_map, AllByRecursion}
 use Rattle.std.proofs.lemmas.List.{append_assoc, append-nil, get_or_append_left, get_or_push, get_or_past, get_or-take, get_or-drop, length_push, take-append-drop, length-take, length-take-le, length-drop, drop-drop, nil_from_length}
 use Rattle.std.proofs.ByRecursion.{All-get_or}
 use Rattle.std.proofs.lemmas.Bool.{cases_lt, lt-ltb, le-ltb, le-leb, lt-leb, and_left, and_right}
@@ -132,7 +132,7 @@ module _ (s : Meaning) (w size : ℕ) (secret tape : List ℕ) where
         ∙ sym (and_left (ltb b (0 * s.m)) _ (le-ltb b (0 * s.m) (omega arith)));
   }
 
-  module _ (x : ℕ) (table o : List ℕ) (known : Table s (pixel secret x) table) (long : length o ≡ s.m) (within : All (λ j. j < s.m) o)
+  module _ (x : ℕ) (table o : List ℕ) (known : Table s (pixel secret x) table) (long : length o ≡ s.m) (within : AllByRecursion (λ j. j < s.m) o)
       (os : List (List ℕ)) (count : length os ≡ x) (pos : 0 < s.m) where
     more_bits : (old : Bool) (k b : ℕ) → k < s.n → old ≡ (ltb b (x * s.m) && square os k b) →
         (old || block table o (x * s.m) s.m k b) ≡ (ltb b ((x + 1) * s.m) && square (os ++ o ∷ []) k b)
@@ -169,7 +169,7 @@ module _ (s : Meaning) (w size : ℕ) (secret tape : List ℕ) where
             ∙ sym (and_left (ltb b ((x + 1) * s.m)) _ (le-ltb b ((x + 1) * s.m) past))
 
   filling_more : (x start : ℕ) (rest out o rest' out' table : List ℕ) → Filling x start rest out → x < w → 0 < s.m →
-      order s.m rest ≡ drawn o rest' → All (λ j. j < s.m) o → length o ≡ s.m → Table s (pixel secret x) table →
+      order s.m rest ≡ drawn o rest' → AllByRecursion (λ j. j < s.m) o → length o ≡ s.m → Table s (pixel secret x) table →
       Blackened s.n size out out' (block table o start (length o)) → Filling (x + 1) (start + s.m) rest' out'
   filling_more x start rest out o rest' out' table h l pos e within long known put = record {
     os = h.os ++ o ∷ [];
@@ -205,13 +205,13 @@ module _ (s : Meaning) (w size : ℕ) (secret tape : List ℕ) where
   -- the same, as the code has it: lengths for the numbers of columns, and a table selected by the pixel
   pub filling_on : (x start step len n : ℕ) (rest out o rest' out' white black table : List ℕ) (is_black : Bool) →
       step ≡ s.m → len ≡ s.m → n ≡ s.n → is_black ≡ bit_at secret x → Table s White white → Table s Black black → table ≡ cond is_black black white →
-      Filling x start rest out → x < w → 0 < s.m → order len rest ≡ drawn o rest' → All (λ j. j < len) o → length o ≡ len →
+      Filling x start rest out → x < w → 0 < s.m → order len rest ≡ drawn o rest' → AllByRecursion (λ j. j < len) o → length o ≡ len →
       Blackened n size out out' (block table o start (length o)) → Filling (x + 1) (start + step) rest' out'
   filling_on x start step len n rest out o rest' out' white black table is_black es el en ef tw tb et h l pos drew within long put =
       let known : Table s (pixel secret x) table =
       subst (Table s (pixel secret x)) (sym et) (subst (λ b. Table s (colour_of b) (cond is_black black white)) ef (table_of s is_black white black tw tb)) in
       rw es (filling_more x start rest out o rest' out' table h l pos
-      (ap (λ k. order k rest) (sym el) ∙ drew) (subst (λ k. All (λ j. j < k) o) el within) (long ∙ el) known
+      (ap (λ k. order k rest) (sym el) ∙ drew) (subst (λ k. AllByRecursion (λ j. j < k) o) el within) (long ∙ el) known
       (subst (λ k. Blackened k size out out' (block table o start (length o))) en put))
 
 pub block_within : (m w size x start : ℕ) → start ≡ x * m → x < w → size ≡ strip_size m w → start + m ≤ 8 * size
@@ -222,6 +222,6 @@ block_within m w size x start e l f =
 pub size_few : (m w size : ℕ) → size ≡ strip_size m w → strip_squares m w ≤ most_squares → size ≤ 4096
 size_few m w size f l = omega arith
 
-pub below_wide : (m k : ℕ) (o : List ℕ) → m ≤ k → All (λ j. j < m) o → All (λ j. j < k) o
+pub below_wide : (m k : ℕ) (o : List ℕ) → m ≤ k → AllByRecursion (λ j. j < m) o → AllByRecursion (λ j. j < k) o
 below_wide m k [] l all = tt
 below_wide m k (x ∷ o) l all = (omega (arith, all.0), below_wide m k o l all.1)

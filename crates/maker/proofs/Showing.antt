@@ -1,14 +1,13 @@
 -- Over each pixel of an accepted row, the stack of any set has as many black squares as the stack of its cells has black
 -- columns: the law's `Shows`.
 use Rattle.std.proofs.Common.{◌≡◌, ℕ, zero, suc, ◌+◌, ◌<◌, Bool, true, false, cond, ◌&&◌, List, [], ◌∷◌, ◌++◌, length, get_or, drop, Some, None, count_by, Option, sym, refl, ap, ◌∙◌, ap₂, zero-add, arith}
-use Rattle.std.specs.List.{range_with_len, AllByRecursion as All}
+use Rattle.std.specs.List.{range_with_len, AllByRecursion}
 use Rattle.schemes.specs.Bits.{count_below}
 use Rattle.schemes.specs.Keyholders.{member}
 use Rattle.schemes.specs.Laws.{Lawful}
 use Rattle.schemes.specs.Meaning.{Meaning, stack, blacks, light, dark}
 use Rattle.schemes.specs.PackedRows.{bit_at}
 use Rattle.schemes.specs.Strips.{square_bit, strip_size, strip_in, stack_bit, blacks_over, pixel}
-use Rattle.schemes.specs.declared.colour.Colour.{Colour}
 use Rattle.schemes.specs.TestFacts.{any_same}
 use Rattle.tapes.specs.Drawing.{Drawn, short, drawn}
 use Rattle.tapes.specs.Orders.{columns, orders}
@@ -100,6 +99,6 @@ module _ (s : Meaning) (w h : ℕ) (lawful : Lawful s) where
   call_shown st spoil = tt
   call_shown st tally = tt
 
-  pub run_shown : (st : State) (calls : List Call) → All (λ e. ShownIn s w e.call e.outcome) (transcript s w h st calls)
+  pub run_shown : (st : State) (calls : List Call) → AllByRecursion (λ e. ShownIn s w e.call e.outcome) (transcript s w h st calls)
   run_shown st [] = tt
   run_shown st (call ∷ calls) = (call_shown st call, run_shown (outcome s w h st call).left calls)

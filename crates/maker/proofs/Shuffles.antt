@@ -1,13 +1,13 @@
 -- Bijections of tapes that keep their length and their bytes, and the one that relabels a digit and goes on by it.
 use Rattle.std.proofs.Common.{◌≡◌, ℕ, suc, ◌+◌, ◌*◌, ◌/◌, ◌%◌, ◌<◌, cond, ltb, List, [], ◌∷◌, length, refl, ap, ◌∙◌, ap₂, arith}
-use Rattle.std.specs.List.{AllByRecursion as All}
+use Rattle.std.specs.List.{AllByRecursion}
 use Rattle.std.proofs.lemmas.Bool.{ltb-true, lt-ltb, cond-true, cond-false, cond_both}
 use Rattle.std.proofs.lemmas.Nat.{mul-add-lt, div-mul-add, mod-mul-add, div_below, mod_below, div-add-mod'}
 use Rattle.schemes.specs.Laws.{Renumbering}
 use Rattle.tapes.specs.Digits.{bound}
 
 abbrev pub Bytes : List ℕ → Type 0
-Bytes t = All (λ x. x < 256) t
+Bytes t = AllByRecursion (λ x. x < 256) t
 
 pub record Shuffle : Type 0 where
   pub to : List ℕ → List ℕ

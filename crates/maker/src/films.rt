@@ -1,6 +1,6 @@
 // Fills the strips of a row: draws an order for each pixel and sets its squares on every film.
 ghost use Rattle.std.specs.Prelude.{◌≡◌, ◌+◌, ◌*◌, ◌<◌, ◌≤◌, ◌++◌, length, drop, replicate, is_some, MatchBool};
-ghost use Rattle.std.specs.List.{AllByRecursion as All};
+ghost use Rattle.std.specs.List.{AllByRecursion};
 ghost use Rattle.schemes.specs.Strips.{most_squares, strip_squares, strip_size};
 ghost use Rattle.tapes.specs.Blocks.{outcome};
 ghost use Rattle.maker.specs.Films.{films_size};
@@ -40,7 +40,7 @@ fn set_block(table: &[u8], order: &[u8], size: usize, n: u8, start: usize, out: 
     requires place { start + length order.now ≤ 8 * size }
     requires few { n ≤ 8 }
     requires short { size ≤ 4096 }
-    requires columns { All (λ j. j < length table.now) order.now }
+    requires columns { AllByRecursion (λ j. j < length table.now) order.now }
     ensures { Blackened n size out.old out.new (block table.now order.now start (length order.now)) }
 {
     for p in 0..order.len() {
@@ -51,9 +51,9 @@ fn set_block(table: &[u8], order: &[u8], size: usize, n: u8, start: usize, out: 
 // Draws the order of a block; false if the tape runs short.
 fn draw_block<T: Tape>(tape: &mut T, order: &mut [u8]) -> bool
     requires { 1 ≤ length order.old }
-    ensures answers { result ≡ is_some (outcome order.old (bytes tape.old)).answer }
-    ensures holds { order.new ≡ (outcome order.old (bytes tape.old)).slice }
-    ensures leaves { bytes tape.new ≡ (outcome order.old (bytes tape.old)).waiting }
+    ensures answers { result ≡ is_some (outcome order.old (T.bytes tape.old)).answer }
+    ensures holds { order.new ≡ (outcome order.old (T.bytes tape.old)).slice }
+    ensures leaves { T.bytes tape.new ≡ (outcome order.old (T.bytes tape.old)).waiting }
 {
     draw_order(tape, order).is_some()
 }
@@ -67,12 +67,12 @@ fn fill_pixels<S: Scheme, T: Tape>(
     out: &mut [u8],
     work: &mut [u8],
 ) -> bool
-    requires tables { Tabled (means scheme.now) tables.now.white tables.now.black }
-    requires size { row.size ≡ strip_size (means scheme.now).m row.width }
-    requires squares { strip_squares (means scheme.now).m row.width ≤ most_squares }
-    requires out { out.old ≡ replicate ((means scheme.now).n * row.size) 0 }
-    requires work { length work.old ≡ (means scheme.now).m }
-    ensures { MatchBool result (Filled (means scheme.now) row.entry.width row.entry.pixels.now (bytes tape.old) (bytes tape.new) out.new) (RanShort (means scheme.now) row.entry.width (bytes tape.old) (bytes tape.new)) }
+    requires tables { Tabled (S.means scheme.now) tables.now.white tables.now.black }
+    requires size { row.size ≡ strip_size (S.means scheme.now).m row.width }
+    requires squares { strip_squares (S.means scheme.now).m row.width ≤ most_squares }
+    requires out { out.old ≡ replicate ((S.means scheme.now).n * row.size) 0 }
+    requires work { length work.old ≡ (S.means scheme.now).m }
+    ensures { MatchBool result (Filled (S.means scheme.now) row.entry.width row.entry.pixels.now (T.bytes tape.old) (T.bytes tape.new) out.new) (RanShort (S.means scheme.now) row.entry.width (T.bytes tape.old) (T.bytes tape.new)) }
 {
     let n = scheme.keyholders();
     let m = work.len();
@@ -104,11 +104,11 @@ pub fn write_films<S: Scheme, T: Tape>(
     out: &mut [u8],
     work: &mut [u8],
 ) -> bool
-    requires size { row.size ≡ strip_size (means scheme.now).m row.width }
-    requires squares { strip_squares (means scheme.now).m row.width ≤ most_squares }
-    requires out { films_size (means scheme.now) row.width ≤ length out.old }
-    requires work { (means scheme.now).m ≤ length work.old }
-    ensures { MatchBool result (Written (means scheme.now) row.entry.width row.entry.pixels.now (bytes tape.old) (bytes tape.new) out.old out.new) (Cleared (means scheme.now) row.entry.width (bytes tape.old) (bytes tape.new) out.old out.new) }
+    requires size { row.size ≡ strip_size (S.means scheme.now).m row.width }
+    requires squares { strip_squares (S.means scheme.now).m row.width ≤ most_squares }
+    requires out { films_size (S.means scheme.now) row.width ≤ length out.old }
+    requires work { (S.means scheme.now).m ≤ length work.old }
+    ensures { MatchBool result (Written (S.means scheme.now) row.entry.width row.entry.pixels.now (T.bytes tape.old) (T.bytes tape.new) out.old out.new) (Cleared (S.means scheme.now) row.entry.width (T.bytes tape.old) (T.bytes tape.new) out.old out.new) }
 {
     let m = usize::from(scheme.columns());
     let total = usize::from(scheme.keyholders()) * row.size;

@@ -52,8 +52,8 @@ pub struct Unplayed<S, T> {
 
 // Carries out one call.
 fn perform<S: Scheme + Drop, T: Tape + Drop>(maker: &mut Maker<S, T>, call: Call) -> Reply
-    ensures reply { ReplyTo (call_of call) (outcome_of means bytes maker.old (call_of call)) result }
-    ensures leaves { Leaves means bytes maker.old maker.new (outcome_of means bytes maker.old (call_of call)) }
+    ensures reply { ReplyTo (call_of call) (outcome_of S.means T.bytes maker.old (call_of call)) result }
+    ensures leaves { Leaves S.means T.bytes maker.old maker.new (outcome_of S.means T.bytes maker.old (call_of call)) }
 {
     match call {
         Call::Row {
@@ -79,7 +79,7 @@ fn perform<S: Scheme + Drop, T: Tape + Drop>(maker: &mut Maker<S, T>, call: Call
 
 // Closes the run if `closes` says so; else it just ends.
 fn finish<S: Scheme + Drop, T: Tape + Drop>(maker: Maker<S, T>, closes: bool) -> Option<Closed>
-    ensures { MatchOption result (closes ≡ false) (λ c. (closes ≡ true) × (answer_of c ≡ close_answer (means maker.scheme) maker.width maker.height (state_of means bytes maker))) }
+    ensures { MatchOption result (closes ≡ false) (λ c. (closes ≡ true) × (answer_of c ≡ close_answer (S.means maker.scheme) maker.width maker.height (state_of S.means T.bytes maker))) }
 {
     if !closes {
         return None;
@@ -98,11 +98,11 @@ pub fn play<S: Scheme + Drop, T: Tape + Drop>(
     calls: Vec<Call>,
     closes: bool,
 ) -> Result<RunLog, Unplayed<S, T>>
-    ensures plays { IfOk result (λ p. Played (means scheme) width height (bytes tape) (map call_of calls.items) closes p.replies.items p.closed) }
+    ensures plays { IfOk result (λ p. Played (S.means scheme) width height (T.bytes tape) (map call_of calls.items) closes p.replies.items p.closed) }
     ensures no_memory { IfErr result (λ u. (u.scheme ≡ scheme) × (u.tape ≡ tape) × (u.calls ≡ calls)) }
-    ensures tape { TapeOf (length (bytes tape)) (bytes tape) }
-    ensures conceals { Conceals (means scheme) width height }
-    ensures shows { Shows (means scheme) width height }
+    ensures tape { TapeOf (length (T.bytes tape)) (T.bytes tape) }
+    ensures conceals { Conceals (S.means scheme) width height }
+    ensures shows { Shows (S.means scheme) width height }
 {
     let mut replies = match Vec::with_capacity(heap, calls.len()) {
         Ok(empty) => empty,

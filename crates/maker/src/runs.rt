@@ -30,11 +30,11 @@ impl<S: Scheme + Drop, T: Tape + Drop> Maker<S, T> {
     // page that is too small or too large is refused by each row.
     // Every run of such a maker keeps the law of specs/Law: `conceals` and `shows`.
     pub fn new(scheme: S, tape: T, width: u32, height: u32) -> Self
-        ensures fresh { state_of means bytes result ≡ fresh (bytes tape) }
+        ensures fresh { state_of S.means T.bytes result ≡ fresh (T.bytes tape) }
         ensures parts { (result.scheme ≡ scheme) × (result.tape ≡ tape) × (result.width ≡ width) × (result.height ≡ height) }
-        ensures tape { TapeOf (length (bytes tape)) (bytes tape) }
-        ensures conceals { Conceals (means scheme) width height }
-        ensures shows { Shows (means scheme) width height }
+        ensures tape { TapeOf (length (T.bytes tape)) (T.bytes tape) }
+        ensures conceals { Conceals (S.means scheme) width height }
+        ensures shows { Shows (S.means scheme) width height }
     {
         let supply = tape.waiting();
         Maker {
@@ -54,10 +54,10 @@ impl<S: Scheme + Drop, T: Tape + Drop> Maker<S, T> {
     // Answers the number of rows made. `TapeEnd` leaves the tape empty and zeros in the place of the strips; the other
     // refusals take no byte and leave the output unchanged.
     pub fn row(&mut self, secret: &[u8], out: &mut [u8], work: &mut [u8]) -> Result<u32, RowRefusal>
-        ensures answers { Answers row_number result (outcome_of means bytes self.old (row-call secret.now out.old work.old)).answer }
-        ensures output { out.new ≡ (outcome_of means bytes self.old (row-call secret.now out.old work.old)).out }
-        ensures wiped { work.new ≡ (outcome_of means bytes self.old (row-call secret.now out.old work.old)).work }
-        ensures leaves { Leaves means bytes self.old self.new (outcome_of means bytes self.old (row-call secret.now out.old work.old)) }
+        ensures answers { Answers row_number result (outcome_of S.means T.bytes self.old (row-call secret.now out.old work.old)).answer }
+        ensures output { out.new ≡ (outcome_of S.means T.bytes self.old (row-call secret.now out.old work.old)).out }
+        ensures wiped { work.new ≡ (outcome_of S.means T.bytes self.old (row-call secret.now out.old work.old)).work }
+        ensures leaves { Leaves S.means T.bytes self.old self.new (outcome_of S.means T.bytes self.old (row-call secret.now out.old work.old)) }
     {
         let guard = WorkStrip { strip: work };
         if let Some(why) = self.row_refusal(secret.len(), out.len(), guard.strip.len()) {
@@ -68,8 +68,8 @@ impl<S: Scheme + Drop, T: Tape + Drop> Maker<S, T> {
 
     // Takes back the row made last, so that it is made again. Answers the number of rows spoiled.
     pub fn spoil(&mut self) -> Result<u16, SpoilRefusal>
-        ensures answers { Answers spoil_number result (outcome_of means bytes self.old spoil-call).answer }
-        ensures leaves { Leaves means bytes self.old self.new (outcome_of means bytes self.old spoil-call) }
+        ensures answers { Answers spoil_number result (outcome_of S.means T.bytes self.old spoil-call).answer }
+        ensures leaves { Leaves S.means T.bytes self.old self.new (outcome_of S.means T.bytes self.old spoil-call) }
     {
         if self.made == 0 {
             return Err(SpoilRefusal::NoRowMade);
@@ -84,7 +84,7 @@ impl<S: Scheme + Drop, T: Tape + Drop> Maker<S, T> {
 
     // Rows made, rows spoiled, bytes taken.
     pub fn tally(&self) -> (u32, u16, usize)
-        ensures { tallied result.0 result.1 result.2 ≡ (outcome_of means bytes self.now tally-call).answer }
+        ensures { tallied result.0 result.1 result.2 ≡ (outcome_of S.means T.bytes self.now tally-call).answer }
     {
         (
             self.made,
@@ -95,7 +95,7 @@ impl<S: Scheme + Drop, T: Tape + Drop> Maker<S, T> {
 
     // Ends the run. It is full if its page is of a size that rows are made of, and every row is made.
     pub fn close(self) -> Closed
-        ensures { answer_of result ≡ close_answer (means self.scheme) self.width self.height (state_of means bytes self) }
+        ensures { answer_of result ≡ close_answer (S.means self.scheme) self.width self.height (state_of S.means T.bytes self) }
     {
         let (made, spoiled, taken) = self.tally();
         Closed {
@@ -108,8 +108,8 @@ impl<S: Scheme + Drop, T: Tape + Drop> Maker<S, T> {
 
     // Why no row of the page is made, whatever its buffers.
     fn page_refusal(&self) -> Option<RowRefusal>
-        ensures why { option_map row_number result ≡ refusal_of (page_refusals (means self.now.scheme) self.now.width self.now.height) }
-        ensures fits { IfNone result (PageFits (means self.now.scheme) self.now.width self.now.height) }
+        ensures why { option_map row_number result ≡ refusal_of (page_refusals (S.means self.now.scheme) self.now.width self.now.height) }
+        ensures fits { IfNone result (PageFits (S.means self.now.scheme) self.now.width self.now.height) }
     {
         let w = self.width;
         let h = self.height;
@@ -124,8 +124,8 @@ impl<S: Scheme + Drop, T: Tape + Drop> Maker<S, T> {
 
     // Why a row is refused before a byte is taken, by the lengths of its buffers.
     fn row_refusal(&self, secret: usize, out: usize, work: usize) -> Option<RowRefusal>
-        ensures why { option_map row_number result ≡ row_refusal (means self.now.scheme) self.now.width self.now.height self.now.made secret out work }
-        ensures fits { IfNone result (RowFits (means self.now.scheme) self.now.width self.now.height self.now.made secret out work) }
+        ensures why { option_map row_number result ≡ row_refusal (S.means self.now.scheme) self.now.width self.now.height self.now.made secret out work }
+        ensures fits { IfNone result (RowFits (S.means self.now.scheme) self.now.width self.now.height self.now.made secret out work) }
     {
         if let Some(why) = self.page_refusal() {
             return Some(why);
@@ -154,10 +154,10 @@ impl<S: Scheme + Drop, T: Tape + Drop> Maker<S, T> {
         out: &mut [u8],
         work: &mut [u8],
     ) -> Result<u32, RowRefusal>
-        requires { RowFits (means self.old.scheme) self.old.width self.old.height self.old.made (length secret.now) (length out.old) (length work.old) }
-        ensures answers { Answers row_number result (row_written means bytes self.old secret.now out.old work.old).answer }
-        ensures output { out.new ≡ (row_written means bytes self.old secret.now out.old work.old).out }
-        ensures leaves { Leaves means bytes self.old self.new (row_written means bytes self.old secret.now out.old work.old) }
+        requires { RowFits (S.means self.old.scheme) self.old.width self.old.height self.old.made (length secret.now) (length out.old) (length work.old) }
+        ensures answers { Answers row_number result (row_written S.means T.bytes self.old secret.now out.old work.old).answer }
+        ensures output { out.new ≡ (row_written S.means T.bytes self.old secret.now out.old work.old).out }
+        ensures leaves { Leaves S.means T.bytes self.old self.new (row_written S.means T.bytes self.old secret.now out.old work.old) }
     {
         let row = SecretRow {
             pixels: secret,

@@ -17,7 +17,7 @@ pub struct Tables {
 impl Tables {
     // The tables of a scheme.
     pub fn new<S: Scheme>(scheme: &S) -> Tables
-        ensures { Tabled (means scheme.now) result.white result.black }
+        ensures { Tabled (S.means scheme.now) result.white result.black }
     {
         Tables {
             white: cells_of(scheme, Colour::White),
@@ -35,7 +35,7 @@ impl Tables {
 
 // The cells of a column.
 fn column_cells<S: Scheme>(scheme: &S, colour: Colour, column: u8) -> u8
-    ensures { result ≡ cells_of (means scheme.now) colour column }
+    ensures { result ≡ cells_of (S.means scheme.now) colour column }
 {
     let mut cells = 0;
     for k in 0..scheme.keyholders() {
@@ -48,7 +48,7 @@ fn column_cells<S: Scheme>(scheme: &S, colour: Colour, column: u8) -> u8
 
 // The cells of all columns, for one colour.
 fn cells_of<S: Scheme>(scheme: &S, colour: Colour) -> Cells
-    ensures { Table (means scheme.now) colour result }
+    ensures { Table (S.means scheme.now) colour result }
 {
     let mut table = [0; MOST_COLUMNS as usize];
     for column in 0..scheme.columns() {

@@ -1,7 +1,7 @@
 -- The strips of a set's members, taken from the films in their order: every member's strip is among them, and no other. For
 -- `lay_members` and `read_back`.
 use Rattle.std.proofs.Common.{◌≡◌, ℕ, zero, suc, ◌+◌, ◌<◌, Bool, true, false, cond, List, [], ◌∷◌, ◌++◌, replicate, sym, refl, ap, ◌∙◌, subst, inl, inr, add-one, arith}
-use Rattle.std.specs.List.{ContainsAt as Has, AllByRecursion as All}
+use Rattle.std.specs.List.{ContainsAt as Has, AllByRecursion}
 use Rattle.std.proofs.ByRecursion.{All-push, All-weaker, has_append_left, has_push}
 use Rattle.std.proofs.lemmas.List.Sums.{fold_push}
 use Rattle.std.proofs.lemmas.Bool.{cases_eq, cond-true, cond-false, true≢false}
@@ -23,7 +23,7 @@ has_last : (b : Bool) (strips : List (List ℕ)) (strip : List ℕ) → b ≡ tr
 has_last true strips strip e = has_push strips strip
 has_last false strips strip e = absurd (true≢false (sym e))
 
-all_grown : (P : List ℕ → Type 0) (b : Bool) (strips : List (List ℕ)) (strip : List ℕ) → All P strips → (b ≡ true → P strip) → All P (grown b strips strip)
+all_grown : (P : List ℕ → Type 0) (b : Bool) (strips : List (List ℕ)) (strip : List ℕ) → AllByRecursion P strips → (b ≡ true → P strip) → All P (grown b strips strip)
 all_grown P true strips strip h last = All-push P strips strip h (last refl)
 all_grown P false strips strip h last = h
 
@@ -43,7 +43,7 @@ module _ (size set : ℕ) (films : List ℕ) where
     | inr ne ↦ has_grown (member set (suc n)) (strips n) (strip_in size films (suc n)) (strip_in size films (suc k)) (every_member n k (omega arith) e)
   ]
 
-  only_members : (n : ℕ) → All (OfMember n) (strips n)
+  only_members : (n : ℕ) → AllByRecursion (OfMember n) (strips n)
   only_members zero = tt
   only_members (suc n) =
       all_grown (OfMember (suc n)) (member set (suc n)) (strips n) (strip_in size films (suc n))

@@ -1,6 +1,6 @@
 -- What the maker's films show to a set, the light box reads: the law of whole runs, `ReadsBack`.
 use Rattle.std.proofs.Common.{◌≡◌, ℕ, ◌<◌, ◌≤◌, List, [], ◌∷◌, length, None, Ok, Result, refl, subst}
-use Rattle.std.specs.List.{AllByRecursion as All}
+use Rattle.std.specs.List.{AllByRecursion}
 use Rattle.schemes.specs.Laws.{InRange, Lawful}
 use Rattle.schemes.specs.Meaning.{Meaning, blacks}
 use Rattle.schemes.specs.Strips.{strip_size, stack_bit, blacks_over, pixel}
@@ -65,7 +65,7 @@ module _ (s : Meaning) (range : InRange s) (lawful : Lawful s) (w h : ℕ) where
   call_read_back st spoil = tt
   call_read_back st tally = tt
 
-  run_read_back : (st : State) (calls : List Call) → All (λ e. ReadBackFrom s w e.call e.outcome) (transcript s w h st calls)
+  run_read_back : (st : State) (calls : List Call) → AllByRecursion (λ e. ReadBackFrom s w e.call e.outcome) (transcript s w h st calls)
   run_read_back st [] = tt
   run_read_back st (call ∷ calls) = (call_read_back st call, run_read_back (outcome s w h st call).left calls)
 

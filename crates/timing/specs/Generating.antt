@@ -1,11 +1,11 @@
 -- The bytes that wait on a generated tape.
 use Rattle.std.specs.Prelude.{◌≡◌, ℕ, zero, suc, ◌+◌, ◌-◌, ◌*◌, ◌/◌, ◌%◌, ◌^◌, ◌<◌, ◌∷◌, length, refl}
 use Rattle.std.proofs.Common.{ap, arith}
-use Rattle.std.specs.List.{AllByRecursion as All}
+use Rattle.std.specs.List.{AllByRecursion}
 use Rattle.std.proofs.lemmas.Nat.{mod_below}
 use Rattle.timing.specs.Generated.{generated}
 
-pub generated_below : (s n : ℕ) → All (λ b. b < 256) (generated s n)
+pub generated_below : (s n : ℕ) → AllByRecursion (λ b. b < 256) (generated s n)
 generated_below s zero = tt
 generated_below s (suc n) = (mod_below (s / 2 ^ 24) 256 (omega arith), generated_below ((s * 1664525 % 2 ^ 32 + 1013904223) % 2 ^ 32) n)
 

@@ -17,12 +17,12 @@ returns-in-Row g c =
     let means = g.S.Scheme.means in
     let bytes = g.T.Tape.bytes in
     let k = c.args.maker.now in
-    let lent : Call = row c.deref.result.now c.deref-mut.result.now c.deref-mut-in-Row.result.now in
+    let lent : Call = row c.deref.result.now c.deref_mut.result.now c.deref_mut-in-Row.result.now in
     let handed : Call = row (vec_items c.in-Row.secret) (vec_items c.in-Row.out) (vec_items c.in-Row.work) in
-    let same : lent ≡ handed = same_row _ _ _ _ _ _ c.deref.ensures.value c.deref-mut.ensures.value c.deref-mut-in-Row.ensures.value in
+    let same : lent ≡ handed = same_row _ _ _ _ _ _ c.deref.ensures.value c.deref_mut.ensures.value c.deref_mut-in-Row.ensures.value in
     let is : handed ≡ call_of c.args.call = sym (ap call_of c.in-Row.is) in
-    let out : length c.row-answer.new.out ≡ c.in-Row.out.len = c.row-answer.auto.out ∙ ap length c.deref-mut.ensures.value ∙ sym c.in-Row.out.ok.0 in
-    let work : length c.row-answer.new.work ≡ c.in-Row.work.len = c.row-answer.auto.work ∙ ap length c.deref-mut-in-Row.ensures.value ∙ sym c.in-Row.work.ok.0 in
+    let out : length c.row-answer.new.out ≡ c.in-Row.out.len = c.row-answer.auto.out ∙ ap length c.deref_mut.ensures.value ∙ sym c.in-Row.out.ok.0 in
+    let work : length c.row-answer.new.work ≡ c.in-Row.work.len = c.row-answer.auto.work ∙ ap length c.deref_mut-in-Row.ensures.value ∙ sym c.in-Row.work.ok.0 in
     let left : Reply = reply.Row c.row-answer.result c.in-Row.secret (with_items c.in-Row.out c.row-answer.new.out) (with_items c.in-Row.work c.row-answer.new.work) in
     let replied : ReplyTo handed (outcome_of means bytes k handed) left = (
       subst (λ x. Answers row_number c.row-answer.result (outcome_of means bytes k x).answer) same c.row-answer.ensures.answers,

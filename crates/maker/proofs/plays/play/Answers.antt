@@ -1,4 +1,4 @@
-use Rattle.std.proofs.Common.{◌≡◌, ◌+◌, ◌≤◌, [], ◌∷◌, map, length, vec_items, vec_len, vec_capacity, sym, refl, ap, ◌∙◌, subst, arith}
+use Rattle.std.proofs.Common.{◌≡◌, [], ◌∷◌, map, length, vec_items, sym, refl, ap, ◌∙◌, subst, arith}
 use Rattle.std.specs.Vec.Iter.{into_iter_items}
 use Rattle.std.proofs.lemmas.List.{nil_from_length}
 use Rattle.maker.specs.Plays.{call_of}
@@ -24,7 +24,7 @@ loop-call-init g c =
     let all = map call_of (into_iter_items c.into_iter-call-iterator.result) in
     let empty = c.in-Ok.ensures in (
       rw empty.items (playing_none g.S.Scheme.means g.T.Tape.bytes c.new-maker.result all),
-      omega (arith, empty.len, empty.capacity, c.len.ensures, ap length c.into_iter-call-iterator.ensures.into_iter-gives.0, c.args.calls.ok.0),
+      omega (arith, empty.len, empty.capacity, c.len.ensures, ap length c.into_iter-call-iterator.ensures.into_iter_gives.0, c.args.calls.ok.0),
     )
 
 pub push_reserved-requires : goal.push_reserved-requires
@@ -61,7 +61,7 @@ returns g c =
     record {
       plays =
           played means bytes start all c.loop-call.maker (map call_of (vec_items c.args.calls)) (vec_items c.loop-call.replies) c.args.closes c.finish.result h
-          (ap (map call_of) c.into_iter-call-iterator.ensures.into_iter-gives.0) c.args.scheme c.args.tape c.args.width c.args.height
+          (ap (map call_of) c.into_iter-call-iterator.ensures.into_iter_gives.0) c.args.scheme c.args.tape c.args.width c.args.height
           parts.0 parts.2 parts.3 c.new-maker.ensures.fresh c.finish.ensures;
       no_memory = tt;
       tape = c.new-maker.ensures.tape;
