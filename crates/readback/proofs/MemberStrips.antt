@@ -23,7 +23,7 @@ has_last : (b : Bool) (strips : List (List ℕ)) (strip : List ℕ) → b ≡ tr
 has_last true strips strip e = has_push strips strip
 has_last false strips strip e = absurd (true≢false (sym e))
 
-all_grown : (P : List ℕ → Type 0) (b : Bool) (strips : List (List ℕ)) (strip : List ℕ) → AllByRecursion P strips → (b ≡ true → P strip) → All P (grown b strips strip)
+all_grown : (P : List ℕ → Type 0) (b : Bool) (strips : List (List ℕ)) (strip : List ℕ) → AllByRecursion P strips → (b ≡ true → P strip) → AllByRecursion P (grown b strips strip)
 all_grown P true strips strip h last = All-push P strips strip h (last refl)
 all_grown P false strips strip h last = h
 

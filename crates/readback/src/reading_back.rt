@@ -22,7 +22,7 @@ fn admit<S: Scheme>(
     glass_bytes: usize,
     out_bytes: usize,
 ) -> Result<(), ReadRefusal>
-    ensures refusal { refusal_in result ≡ early_refusal (means scheme.now) set.bits w glass_bytes out_bytes }
+    ensures refusal { refusal_in result ≡ early_refusal (S.means scheme.now) set.bits w glass_bytes out_bytes }
     ensures short { OnOk result (glass_bytes ≤ bytes_for most_squares) }
 {
     if w < 1 || w > MOST_PIXELS {
@@ -81,9 +81,9 @@ pub fn read_back<S: Scheme>(
     glass: &mut [u8],
     out: &mut [u8],
 ) -> Result<(), ReadBackRefusal>
-    ensures reads { LaidAndRead (means scheme.now) set.bits w films.now glass.old out.old result glass.new out.new }
-    ensures restores { Restores (means scheme.now) set.bits w films.now glass.old out.old result out.new }
-    ensures whole_runs { ReadsBack (means scheme.now) w }
+    ensures reads { LaidAndRead (S.means scheme.now) set.bits w films.now glass.old out.old result glass.new out.new }
+    ensures restores { Restores (S.means scheme.now) set.bits w films.now glass.old out.old result out.new }
+    ensures whole_runs { ReadsBack (S.means scheme.now) w }
 {
     admit(scheme, set, w, glass.len(), out.len())?;
     lay_members(scheme.keyholders(), set, films, glass)?;
