@@ -16,7 +16,7 @@ fn card_of(rt: &HostRuntime, words: &[String]) -> Result<Card, Failure> {
         _ => return Err(Failure::Usage),
     };
     let mut sets = arguments::sets(rt.alloc(), sets)?;
-    sets.sort();
+    sets.sort_unstable();
     Ok(Card { kind, n, sets })
 }
 

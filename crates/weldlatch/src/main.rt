@@ -18,6 +18,7 @@ mod usage;
 
 use failure::Failure;
 use std::env;
+use std::process::ExitCode;
 
 fn run(rt: &HostRuntime) -> Result<(), Failure> {
     let mut args = env::args(rt)?;
@@ -42,10 +43,12 @@ fn run(rt: &HostRuntime) -> Result<(), Failure> {
 }
 
 // A failure goes to standard error, and ends the program with status 1.
-fn main(rt: HostRuntime) -> Result<(), Failure> {
-    let result = run(&rt);
-    if let Err(failure) = &result {
-        eprintln!(rt; "{failure}")?;
+fn main(rt: HostRuntime) -> ExitCode {
+    match run(&rt) {
+        Ok(()) => ExitCode::SUCCESS,
+        Err(failure) => {
+            let _ = eprintln!(rt; "{failure}");
+            ExitCode::FAILURE
+        }
     }
-    result
 }
