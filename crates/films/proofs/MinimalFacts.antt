@@ -1,14 +1,14 @@
 -- The minimal qualified sets: the test of a set, and the list of those that pass it.
-use Rattle.std.proofs.Common.{◌≡◌, ℕ, ◌^◌, ◌<◌, ◌≤◌, Bool, true, false, not, ◌&&◌, eqb, ◌⊎◌, List, get_or, Decides, sym, refl, ap, ◌∙◌, subst, inl, inr, arith, pow_mono}
+use Rattle.std.proofs.Common.{◌≡◌, ℕ, ◌^◌, ◌<◌, ◌≤◌, Bool, true, false, not, ◌&&◌, ◌⊎◌, get_or, Decides, sym, refl, ap, ◌∙◌, subst, inl, inr, arith, pow_mono}
 use lib.Bits.{bit_and, and_le_r}
-use Rattle.std.proofs.lemmas.Bool.{cases_lt, true≢false, eqb-true, and_parts, and_from, not-true, not_from_false}
+use Rattle.std.proofs.lemmas.Bool.{cases_lt, true≢false, eqb-true, and_parts, and_from, not-true}
 use Rattle.std.proofs.lemmas.Bool.Decides.{same_from_decides}
 use Rattle.schemes.specs.Bits.{any_below}
-use Rattle.schemes.specs.Keyholders.{most_keyholders, Within, Among}
+use Rattle.schemes.specs.Keyholders.{most_keyholders, Within}
 use Rattle.schemes.specs.Laws.{InRange}
 use Rattle.schemes.specs.Meaning.{Meaning}
 use Rattle.schemes.specs.TestFacts.{any_true, any_false, any_none}
-use Rattle.cumulative.specs.Access.{subset, those_below}
+use Rattle.cumulative.specs.Access.{subset}
 use Rattle.cumulative.specs.AccessFacts.{within_subset, subset_within, subset_decided}
 use Rattle.cumulative.specs.ListedFacts.{listed, list_passes, list_rising}
 use Rattle.films.specs.Minimal.{MinimalQualified, IsMinimalList, is_qualified_part, is_minimal, minimal_sets_of}

@@ -1,5 +1,5 @@
 -- The rows of one film: where each strip lies, and what a row more adds.
-use Rattle.std.proofs.Common.{◌≡◌, ℕ, zero, suc, ◌+◌, ◌-◌, ◌*◌, ◌^◌, ◌<◌, ◌≤◌, List, ◌++◌, length, take, drop, sym, refl, ap, ◌∙◌, subst, mul-le-mul_right, suc-mul, mul-le-mul, add-one, arith}
+use Rattle.std.proofs.Common.{◌≡◌, ℕ, zero, suc, ◌+◌, ◌-◌, ◌*◌, ◌^◌, ◌<◌, ◌≤◌, List, ◌++◌, take, drop, sym, ap, ◌∙◌, mul-le-mul_right, suc-mul, mul-le-mul, add-one, arith}
 use Rattle.std.proofs.lemmas.List.{drop-drop}
 use Rattle.films.specs.FilmRows.{film_of}
 

@@ -11,14 +11,14 @@ const SETS: u16 = 256;
 
 // Whether the other set is a part of the set, and qualified.
 fn is_qualified_part<S: Scheme>(scheme: &S, set: KeyholderSet, other: KeyholderSet) -> bool
-    ensures { result ≡ is_qualified_part (means scheme.now) set.bits other.bits }
+    ensures { result ≡ is_qualified_part (S.means scheme.now) set.bits other.bits }
 {
     set.contains(other) && scheme.qualified(other)
 }
 
 // Whether the set is qualified, and no smaller one is.
 fn is_minimal<S: Scheme>(scheme: &S, set: KeyholderSet) -> bool
-    ensures { result ≡ is_minimal (means scheme.now) set.bits }
+    ensures { result ≡ is_minimal (S.means scheme.now) set.bits }
 {
     if !scheme.qualified(set) {
         return false;
@@ -33,8 +33,8 @@ fn is_minimal<S: Scheme>(scheme: &S, set: KeyholderSet) -> bool
 
 // The minimal qualified sets of a scheme, in rising order: the sets that are qualified while no smaller set is.
 pub fn minimal_sets<S: Scheme>(heap: Global, scheme: &S) -> Result<Vec<KeyholderSet>, AllocError>
-    ensures sets { IfOk result (λ v. numbers v.items ≡ minimal_sets_of (means scheme.now)) }
-    ensures exactly { IfOk result (λ v. IsMinimalList (means scheme.now) (numbers v.items)) }
+    ensures sets { IfOk result (λ v. numbers v.items ≡ minimal_sets_of (S.means scheme.now)) }
+    ensures exactly { IfOk result (λ v. IsMinimalList (S.means scheme.now) (numbers v.items)) }
 {
     let mut sets = Vec::new(heap);
     for number in 0..SETS {

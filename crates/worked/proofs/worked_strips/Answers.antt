@@ -1,4 +1,4 @@
-use Rattle.std.proofs.Common.{◌≡◌, ℕ, List, [], ◌∷◌, Ok, sym, refl, ap, ◌∙◌}
+use Rattle.std.proofs.Common.{◌≡◌, ℕ, List, [], ◌∷◌, Ok, ap, ◌∙◌}
 use Rattle.schemes.specs.AllOf.{all_of}
 use Rattle.schemes.specs.Meaning.{Meaning}
 use Rattle.maker.specs.Runs.{State, fresh, row, outcome}

@@ -1,4 +1,4 @@
-use Rattle.std.proofs.Common.{◌≡◌, ℕ, ◌<◌, true, false}
+use Rattle.std.proofs.Common.{◌≡◌, ℕ, ◌<◌, false}
 use Rattle.films.specs.Minimal.{is_qualified_part}
 use Rattle.films.proofs.minimal.is_minimal.Given as goal
 

@@ -1,4 +1,4 @@
-use Rattle.std.proofs.Common.{Bool, true, false, ◌&&◌, ap, ◌∙◌}
+use Rattle.std.proofs.Common.{true, false, ◌∙◌}
 use Rattle.films.proofs.MinimalFacts.{part_asked}
 use Rattle.films.proofs.minimal.is_qualified_part.Goals as goal
 

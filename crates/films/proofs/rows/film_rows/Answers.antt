@@ -23,8 +23,8 @@ overflow_add-start-in-loop-y c =
     let end = strip_within c.args.n c.args.size c.args.height c.loop-y.y c.args.keyholder (c.args.height * (c.args.n * c.args.size)) c.loop-y-test.true (omega arith) (omega arith) (omega arith) in
     omega arith
 
-pub slice-bounds-extend_from_slice-end : goal.slice-bounds-extend_from_slice-end
-slice-bounds-extend_from_slice-end c =
+pub slice_bounds-extend_from_slice-end : goal.slice_bounds-extend_from_slice-end
+slice_bounds-extend_from_slice-end c =
     let end = strip_within c.args.n c.args.size c.args.height c.loop-y.y c.args.keyholder (c.args.height * (c.args.n * c.args.size)) c.loop-y-test.true (omega arith) (omega arith) (omega arith) in
     omega arith
 
