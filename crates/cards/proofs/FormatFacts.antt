@@ -1,8 +1,8 @@
 -- Reading accepts exactly the cards: from an accepted reading to the layout of the bytes, and from the layout back to the
 -- reading. Cards are then equal as bytes exactly when they say the same.
-use Rattle.std.proofs.Common.{◌≡◌, ℕ, zero, suc, ◌+◌, ◌<◌, ◌≤◌, Bool, true, false, cond, not, ◌&&◌, ◌||◌, eqb, ltb, leb, List, [], ◌∷◌, ◌++◌, length, take, Some, None, Ok, Err, Result, sym, refl, ap, ◌∙◌, subst, ⊎_elim, append-nil, arith}
+use Rattle.std.proofs.Common.{◌≡◌, ℕ, zero, suc, ◌+◌, ◌<◌, ◌≤◌, Bool, true, false, cond, not, ◌&&◌, ◌||◌, eqb, ltb, leb, List, [], ◌∷◌, length, take, Some, None, Ok, Err, Result, sym, refl, ap, ◌∙◌, subst, ⊎_elim, append-nil, arith}
 use Rattle.std.proofs.lemmas.List.{take_all}
-use Rattle.std.proofs.lemmas.Bool.{cond-true, cond-false, cases_Bool, le-ltb, ltb-false, leb-false, eqb-true, true≢false}
+use Rattle.std.proofs.lemmas.Bool.{cond-false, cases_Bool, le-ltb, ltb-false, leb-false, eqb-true, true≢false}
 use Rattle.std.proofs.lemmas.Bool.Decides.{nat_tests}
 use Rattle.schemes.specs.Bits.{differ}
 use Rattle.cards.specs.Kinds.{kind_numbered}
@@ -13,7 +13,6 @@ use Rattle.cards.specs.declared.card.CardKind.{CardKind}
 use Rattle.cards.specs.declared.card.CardKind.TheVariants.{AllOf, TwoOf, Sets}
 use Rattle.cards.specs.declared.faults.CardRefusal.TheVariants.{WrongSets}
 use Rattle.cards.specs.declared.faults.CardFault.{CardFault}
-use Rattle.cards.specs.declared.faults.CardFault.TheVariants.{Format}
 use Rattle.cards.proofs.RisingFacts.{rises, all_rise}
 
 -- ---- from an accepted reading to the layout

@@ -1,5 +1,5 @@
 -- The bytes of a card, field after field, as the code pushes them.
-use Rattle.std.proofs.Common.{◌≡◌, ℕ, List, [], ◌∷◌, ◌++◌, length, Some, None, sym, refl, ap, ◌∙◌, subst, append_assoc, append-nil}
+use Rattle.std.proofs.Common.{◌≡◌, ℕ, List, [], ◌∷◌, ◌++◌, length, Some, None, sym, refl, ap, ◌∙◌, append_assoc, append-nil}
 use Rattle.cards.specs.Format.{Field, map_from, field_bytes, mapped_fields, sets_field}
 use Rattle.cards.specs.declared.card.CardKind.{CardKind}
 use Rattle.cards.specs.declared.card.CardKind.TheVariants.{Sets}

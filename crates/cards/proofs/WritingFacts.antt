@@ -1,7 +1,7 @@
 -- What is written opens again, and whatever is acceptable is written.
-use Rattle.std.proofs.Common.{◌≡◌, ℕ, ◌+◌, ◌<◌, ◌≤◌, Bool, true, false, cond, not, ◌||◌, eqb, ltb, ◌⊎◌, List, [], ◌∷◌, length, is_some, IfOk, Some, None, Ok, Err, Option, Result, sym, refl, ap, ◌∙◌, subst, inl, inr, arith, MatchResult}
+use Rattle.std.proofs.Common.{◌≡◌, ℕ, ◌+◌, ◌<◌, ◌≤◌, Bool, true, false, cond, not, ◌||◌, ltb, ◌⊎◌, List, [], ◌∷◌, length, is_some, IfOk, Some, None, Ok, Err, Option, Result, sym, refl, ap, ◌∙◌, subst, inl, inr, arith, MatchResult}
 use Rattle.std.specs.Option.{option_or}
-use Rattle.std.proofs.lemmas.Bool.{cond-false, le-ltb, ltb-false, eqb-true}
+use Rattle.std.proofs.lemmas.Bool.{cond-false, le-ltb, ltb-false}
 use Rattle.std.proofs.lemmas.Bool.Decides.{nat_tests}
 use Rattle.schemes.specs.Meaning.{Meaning}
 use Rattle.schemes.specs.Refusals.{refusal_in, keyholders_from}
@@ -9,7 +9,7 @@ use Rattle.schemes.specs.declared.keyholders.KeyholderSet.{KeyholderSet}
 use Rattle.schemes.specs.declared.refusals.SchemeRefusal.{SchemeRefusal}
 use Rattle.schemes.specs.declared.refusals.SchemeRefusal.TheVariants.{ListLength}
 use Rattle.cumulative.specs.Access.{numbers}
-use Rattle.cumulative.specs.Making.{most_sets, making_refusal, when}
+use Rattle.cumulative.specs.Making.{most_sets, making_refusal}
 use Rattle.cards.specs.Answers.{NoMemory, Answers}
 use Rattle.cards.specs.Format.{Contents, says, card_bytes, Rising, SetsByKind, IsCard}
 use Rattle.cards.specs.Reading.{rising_front, reading}

@@ -5,7 +5,7 @@ pub mod Kinds
 pub mod Meanings
 pub mod Reading
 pub mod Refusals
+pub mod SchemeOfSets
 pub mod Schemes
 pub mod Worked
 pub mod Writing
-pub mod CardSchemeSchemeLemmas

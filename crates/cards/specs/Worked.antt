@@ -9,7 +9,7 @@ use Rattle.cards.specs.Reading.{reading}
 use Rattle.cards.specs.Refusals.{fault_number, fault_place}
 use Rattle.cards.specs.Schemes.{opening}
 use Rattle.cards.specs.Writing.{writing}
-use Rattle.cards.specs.declared.card.CardKind.TheVariants.{AllOf, TwoOf, Sets}
+use Rattle.cards.specs.declared.card.CardKind.TheVariants.{AllOf, Sets}
 use Rattle.cards.specs.declared.faults.CardRefusal.TheVariants.{WrongValue, WrongSets}
 use Rattle.cards.specs.declared.faults.CardFault.TheVariants.{Format}
 

@@ -1,5 +1,5 @@
 -- What writing a card answers: its bytes, or the fault that keeps it from being one.
-use Rattle.std.specs.Prelude.{◌≡◌, ℕ, ◌+◌, Bool, cond, not, List, [], ◌∷◌, length, is_some, Some, None, Ok, Err, Option, Result, ◌==◌, nat_lt}
+use Rattle.std.specs.Prelude.{◌≡◌, ℕ, ◌+◌, Bool, cond, not, List, [], ◌∷◌, length, is_some, Some, None, Err, Option, Result, ◌==◌, nat_lt}
 use Rattle.schemes.specs.Refusals.{refusal_in}
 use Rattle.cards.specs.Format.{Contents, unwritten_n, card_bytes, Rising, SetsByKind}
 use Rattle.cards.specs.Reading.{rising_front}

@@ -5,7 +5,7 @@ ghost use Rattle.schemes.specs.TwoOfFacts.{two_of_in_range, two_of_lawful};
 ghost use Rattle.cumulative.specs.Access.{numbers};
 ghost use Rattle.cumulative.specs.CumulativeFacts.{cumulative_in_range, cumulative_lawful};
 ghost use Rattle.cards.specs.declared.card_scheme.CardScheme.TheVariants.{All, Two, Sets};
-ghost use Rattle.cards.specs.CardSchemeSchemeLemmas.{proper_sets, few_forbidden};
+ghost use Rattle.cards.specs.SchemeOfSets.{proper_sets, few_forbidden};
 
 use cumulative::Cumulative;
 use schemes::{AllOf, Colour, KeyholderSet, Scheme, TwoOf};

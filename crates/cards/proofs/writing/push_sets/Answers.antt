@@ -1,6 +1,5 @@
-use Rattle.std.proofs.Common.{is_ok, sym, ap, ◌∙◌}
+use Rattle.std.proofs.Common.{sym}
 use Rattle.std.proofs.lemmas.Result.{MatchResult-weaker}
-use Rattle.std.proofs.lemmas.Bool.{cond-true}
 use Rattle.cumulative.specs.Access.{numbers}
 use Rattle.cards.proofs.ContentsFacts.{numbers_length}
 use Rattle.cards.proofs.LayoutFacts.{sets_pushed}

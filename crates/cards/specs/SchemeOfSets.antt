@@ -1,3 +1,4 @@
+-- What the laws of the scheme that a card names need where it is one of sets: its list is proper, and few sets are forbidden.
 use Rattle.std.specs.Prelude.{◌≤◌, length, vec_items}
 use Rattle.std.proofs.Common.{arith}
 use Rattle.schemes.specs.Keyholders.{most_keyholders}
