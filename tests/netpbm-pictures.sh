@@ -1,10 +1,10 @@
 #!/usr/bin/env bash
 # Holds our reader of picture files against Netpbm's: size and every bit of pictures that Netpbm makes, and the refusals that
-# docs/PICTURES.md names. Usage: tests/netpbm-pictures.sh [PROGRAM], by default target/bin/weldlatch.
+# docs/PICTURES.md names. Usage: tests/netpbm-pictures.sh [PROGRAM], by default crates/weldlatch/out/weldlatch.
 # It needs Netpbm, on Debian `apt-get install netpbm`.
 set -euo pipefail
 
-program=$(realpath "${1:-target/bin/weldlatch}")
+program=$(realpath "${1:-crates/weldlatch/out/weldlatch}")
 if ! command -v pamfile >/dev/null; then
     echo "netpbm-pictures: needs Netpbm: apt-get install netpbm" >&2
     exit 2

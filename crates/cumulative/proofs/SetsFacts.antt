@@ -1,6 +1,6 @@
 -- The loops over the list of minimal sets: the first place that passes a test, and what each turn adds.
 use Rattle.std.proofs.Common.{◌≡◌, ℕ, ◌+◌, ◌-◌, ◌^◌, ◌<◌, ◌≤◌, Bool, true, false, not, ◌&&◌, ◌||◌, eqb, ltb, List, length, get_or, is_some, Some, None, Decides, sym, refl, ap, ◌∙◌, add-one, arith}
-use lib.Bits.{bit_or}
+use Rattle.std.specs.Int.Bits.{bit_or}
 use Rattle.std.proofs.lemmas.List.{get_or-map, length-map}
 use Rattle.std.proofs.lemmas.Bool.{ne_eqb, and_parts, and_from, not-true, not-false, not_from_false}
 use Rattle.std.proofs.lemmas.Bool.Decides.{same_from_decides}

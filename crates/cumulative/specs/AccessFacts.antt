@@ -1,8 +1,9 @@
 -- Sets within sets, what qualifies, and the list of the maximal forbidden sets: that it is `IsForbiddenList`, that every
 -- forbidden set lies within one of the list, and that a qualified set lies within none.
 use Rattle.std.proofs.Common.{◌≡◌, ℕ, zero, suc, ◌^◌, ◌<◌, ◌≤◌, Bool, true, false, not, ◌&&◌, eqb, ltb, ◌⊎◌, List, length, get_or, Decides, sym, refl, ap, ◌∙◌, subst, inl, inr, pow-suc, arith, pow_pos}
-use lib.Bits.{bit_and, bit_or, or_lt, and_zero_r, and_le_l}
-use lib.Pow.{pow-lt}
+use Rattle.std.specs.Int.Bits.{bit_and, bit_or, and_zero_r}
+use Rattle.std.proofs.lemmas.Nat.{or_lt, and_le_l}
+use Rattle.std.proofs.Math.Pow.{pow-lt}
 use Rattle.std.proofs.lemmas.Bool.{cases_lt, cases_eq, cases_Bool, true≢false, false≢true, eqb-true, eqb-false, eq-eqb, ne_eqb, ltb-true, and_parts, and_from, or_parts, or_from, or_right, not-true, not-false, not_from_false}
 use Rattle.schemes.specs.Bits.{bit, any_below}
 use Rattle.schemes.specs.Keyholders.{member, Within, everyone}
@@ -131,9 +132,9 @@ module _ (n : ℕ) (minimal : List ℕ) (set : ℕ) (p : set < 2 ^ n) where
       growth other w ne h =
           sym (ap (λ (x : Bool). x && not (qualifies minimal other)) (and_from (subset set other) (not (eqb other set)) (within_subset set other w) (not_from_false (eqb other set) (ne_eqb other set ne)))) ∙ h
 
-  pub is-maximal : MaximalForbidden n minimal set → maximal n minimal set ≡ true
+  pub is_maximal : MaximalForbidden n minimal set → maximal n minimal set ≡ true
   unfolding maximal
-  is-maximal h =
+  is_maximal h =
       and_from (not (qualifies minimal set)) (not (any_below (2 ^ n) (can_grow_to minimal set)))
       (not_from_false (qualifies minimal set) (not_qualifies minimal set h.forbidden))
       (not_from_false (any_below (2 ^ n) (can_grow_to minimal set)) (any_false (2 ^ n) (can_grow_to minimal set) (λ other l. stuck other l (can_grow_to minimal set other) refl)))
@@ -180,7 +181,7 @@ forbidden_list n minimal = record {
   each = λ q l.
       let t = list_passes (maximal n minimal) (2 ^ n) q l in
       maximal_is n minimal (get_or (forbidden_sets n minimal) q 0) t.0 t.1;
-  every = λ set h. listed (maximal n minimal) (2 ^ n) set h.among (is-maximal n minimal set h.among h);
+  every = λ set h. listed (maximal n minimal) (2 ^ n) set h.among (is_maximal n minimal set h.among h);
   rising = λ p q s l. list_rising (maximal n minimal) (2 ^ n) p q s l;
 }
 

@@ -180,7 +180,6 @@ cell_by_record n minimal c i j = go i (cases_lt j (2 ^ (length F - 1)))
 pub row_asked : (t : ℕ) (F : List ℕ) (c : Colour) (j q : ℕ) (answer : Bool) → length F ≡ t → answer ≡ (all_of t).cell c (q + 1) j → all_row (length F) c q j ≡ answer
 row_asked t F c j q answer e h = ap (λ (x : ℕ). all_row x c q j) e ∙ ap (λ (x : ℕ). (all_of t).cell c x j) (sym (add-one q)) ∙ sym h
 
--- ---- the records that a scheme has
-
+-- as many maximal forbidden sets as the table has rows, which are at most 8
 pub few_forbidden : (forbidden : List ℕ) (t : ℕ) → length forbidden ≡ t → t ≤ most_keyholders → length forbidden ≤ most_keyholders
 few_forbidden forbidden t e l = omega arith

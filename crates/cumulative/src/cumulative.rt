@@ -116,9 +116,14 @@ impl Cumulative {
 impl Scheme for Cumulative {
     ghost means = { λ s. cumulative s.n (numbers s.minimal.items) };
 
-    ghost in_range = { λ s. cumulative_in_range s.n (numbers s.minimal.items) (record { least = s.least; most = s.most; some_set = s.listed; proper = s.proper }) (few_forbidden _ _ s.rows s.table.most) };
+    ghost in_range = { λ s.
+        cumulative_in_range s.n (numbers s.minimal.items)
+        (record { least = s.least; most = s.most; some_set = s.listed; proper = s.proper })
+        (few_forbidden _ _ s.rows s.table.most) };
 
-    ghost lawful = { λ s. cumulative_lawful s.n (numbers s.minimal.items) (record { least = s.least; most = s.most; some_set = s.listed; proper = s.proper }) };
+    ghost lawful = { λ s.
+        cumulative_lawful s.n (numbers s.minimal.items)
+        (record { least = s.least; most = s.most; some_set = s.listed; proper = s.proper }) };
 
     fn keyholders(&self) -> u8 {
         self.n

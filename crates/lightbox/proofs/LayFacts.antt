@@ -1,9 +1,9 @@
 -- Strips laid on a glass, byte by byte and bit by bit; a stack is black exactly where some strip is (`StacksAddUp`).
 use Rattle.std.proofs.Common.{◌≡◌, ℕ, ◌+◌, ◌-◌, ◌/◌, ◌%◌, ◌<◌, ◌≤◌, Bool, true, false, ◌||◌, eqb, ◌≢◌, List, [], ◌∷◌, length, get_or, set, replicate, fold, sym, refl, ap, ◌∙◌, ap₂, inl, inr, arith}
-use mathlib.Core.Bool.{or-false, or_assoc}
-use lib.Bits.{bit_or}
-use lib.Lanes.{zip2}
-use Rattle.std.specs.List.{ContainsAt as Has, AllByRecursion as All}
+use Rattle.std.proofs.Math.Bool.{or-false, or_assoc}
+use Rattle.std.specs.Int.Bits.{bit_or}
+use Rattle.std.specs.Simd.Lanes.{zip2}
+use Rattle.std.specs.List.{ContainsAt as Has, AllByRecursion}
 use Rattle.std.proofs.ByRecursion.{all-has, All-weaker, has_append_right, has_get_or}
 use Rattle.std.proofs.lemmas.Simd.{length-zip2, get_or-zip2}
 use Rattle.std.proofs.lemmas.List.{get_or-set_same, get_or-set_other, ext_get_or, length-replicate}
@@ -82,7 +82,7 @@ any_black (strip ∷ more) b = bit_at strip b || any_black more b
 
 module _ (size : ℕ) where
   abbrev pub OfSize : (strips : List (List ℕ)) → Type 0
-  OfSize strips = All (λ strip. length strip ≡ size) strips
+  OfSize strips = AllByRecursion (λ strip. length strip ≡ size) strips
 
   pub folded_length : (strips : List (List ℕ)) (glass : List ℕ) → length glass ≡ size → OfSize strips → length (fold laid glass strips) ≡ size
   folded_length [] glass e h = e
@@ -108,7 +108,7 @@ module _ (size : ℕ) where
 
 -- ---- some strip is black, as a strip of the list
 
-pub any_black_from : (b : ℕ) (strips : List (List ℕ)) → All (λ strip. bit_at strip b ≡ true → any_black strips b ≡ true) strips
+pub any_black_from : (b : ℕ) (strips : List (List ℕ)) → AllByRecursion (λ strip. bit_at strip b ≡ true → any_black strips b ≡ true) strips
 any_black_from b [] = tt
 any_black_from b (strip ∷ more) = (
   or_left (bit_at strip b) (any_black more b),

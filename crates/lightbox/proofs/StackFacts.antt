@@ -1,6 +1,6 @@
 -- The strips of a set's members on a clear glass: they give the set's stack (`StacksOfMembers`), and so what the stack shows.
 use Rattle.std.proofs.Common.{◌≡◌, ℕ, suc, ◌*◌, ◌<◌, ◌≤◌, Bool, true, ◌&&◌, List, length, drop, sym, ap, ◌∙◌, inl, inr, mul-le-mul_right, suc-mul, arith}
-use Rattle.std.specs.List.{AllByRecursion as All}
+use Rattle.std.specs.List.{AllByRecursion}
 use Rattle.std.proofs.ByRecursion.{all-has, All-weaker}
 use Rattle.std.proofs.lemmas.List.{length-drop, length-take-le}
 use Rattle.std.proofs.lemmas.Bool.{and_from, and_parts, cases_Bool, true≢false}
@@ -26,7 +26,7 @@ module _ (n size set : ℕ) (out : List ℕ) (strips : List (List ℕ)) (of : St
   abbrev OfMember : List ℕ → Type 0
   OfMember strip = (k : ℕ) × (k < n) × (member set (suc k) ≡ true) × (strip ≡ strip_in size out (suc k))
 
-  pub strips_of_size : n * size ≤ length out → All (λ strip. length strip ≡ size) strips
+  pub strips_of_size : n * size ≤ length out → AllByRecursion (λ strip. length strip ≡ size) strips
   strips_of_size h =
       All-weaker OfMember (λ strip. length strip ≡ size) (λ strip t. ap length t.3 ∙ strip_in_length n size out h t.0 t.1) strips of.only
 

@@ -27,8 +27,8 @@ module _ {S T : Type 0} (means : S → Meaning) (bytes : T → List ℕ) where
 
 -- A result is an answer: a number, or a refusal by its number.
 abbrev pub Answers : {E : Type 0} → (E → ℕ) → Result ℕ E → Answer → Type 0
-Answers number_of_lem (Ok n) a = a ≡ number n
-Answers number_of_lem (Err why) a = a ≡ refused (number_of_lem why)
+Answers number_of (Ok n) a = a ≡ number n
+Answers number_of (Err why) a = a ≡ refused (number_of why)
 
 abbrev pub answer_of : Closed → Answer
 answer_of c = closed c.made c.spoiled c.taken c.is_full

@@ -179,6 +179,7 @@ fn row_call(heap: Global, secret: &[u8]) -> Result<Call, AllocError> {
 
 // A row reply with this answer and output; the work strip is wiped and the secret row handed back.
 fn check_row(
+    rt: &impl Abort,
     reply: Option<Reply>,
     answer: Result<u32, RowRefusal>,
     secret: &[u8],
@@ -195,32 +196,39 @@ fn check_row(
     else {
         return Err(Fail::new("no reply to a row"));
     };
-    assert_eq!(answered, answer);
-    assert!(back.as_slice() == secret);
-    assert!(left.as_slice() == &out);
-    assert!(work.as_slice() == &[0, 0, 0]);
+    assert_eq!(rt; answered, answer);
+    assert!(rt; back.as_slice() == secret);
+    assert!(rt; left.as_slice() == out.as_slice());
+    assert!(rt; work.as_slice() == [0, 0, 0].as_slice());
     Ok(())
 }
 
-fn check_spoil(reply: Option<Reply>, answer: Result<u16, SpoilRefusal>) -> Result<(), Fail> {
+fn check_spoil(
+    rt: &impl Abort,
+    reply: Option<Reply>,
+    answer: Result<u16, SpoilRefusal>,
+) -> Result<(), Fail> {
     let Some(Reply::Spoil(answered)) = reply else {
         return Err(Fail::new("no reply to a spoil"));
     };
-    assert_eq!(answered, answer);
+    assert_eq!(rt; answered, answer);
     Ok(())
 }
 
-fn check_tally(reply: Option<Reply>, counts: (u32, u16, usize)) -> Result<(), Fail> {
+fn check_tally(
+    rt: &impl Abort,
+    reply: Option<Reply>,
+    counts: (u32, u16, usize),
+) -> Result<(), Fail> {
     let Some(Reply::Tally(made, spoiled, taken)) = reply else {
         return Err(Fail::new("no reply to a tally"));
     };
-    assert_eq!((made, spoiled, taken), counts);
+    assert_eq!(rt; (made, spoiled, taken), counts);
     Ok(())
 }
 
 // All of 2 on the tape 5, 8, 2, 7, 1: a row, a spoiled row made again with another order, and the tape's end.
-fn played(rt: HostRuntime, closes: bool) -> Result<Option<Closed>, Fail> {
-    let heap = rt.alloc();
+fn played(rt: &impl Abort, heap: Global, closes: bool) -> Result<Option<Closed>, Fail> {
     let pixels = [0b0100_0000];
     let mut calls = Vec::new(heap);
     calls.push(row_call(heap, &pixels)?)?;
@@ -239,36 +247,46 @@ fn played(rt: HostRuntime, closes: bool) -> Result<Option<Closed>, Fail> {
     };
     let mut replies = log.replies.into_iter();
     check_row(
+        rt,
         replies.next(),
         Ok(1),
         &pixels,
         [0b1001_0000, 0b1010_0000, 7],
     )?;
-    check_tally(replies.next(), (1, 0, 2))?;
+    check_tally(rt, replies.next(), (1, 0, 2))?;
     check_row(
+        rt,
         replies.next(),
         Err(RowRefusal::AllRowsMade),
         &pixels,
         [9, 9, 7],
     )?;
-    check_spoil(replies.next(), Ok(1))?;
+    check_spoil(rt, replies.next(), Ok(1))?;
     check_row(
+        rt,
         replies.next(),
         Err(RowRefusal::SecretLength),
         &[1, 1],
         [9, 9, 7],
     )?;
     check_row(
+        rt,
         replies.next(),
         Ok(1),
         &pixels,
         [0b0110_0000, 0b0101_0000, 7],
     )?;
-    check_spoil(replies.next(), Ok(2))?;
-    check_row(replies.next(), Err(RowRefusal::TapeEnd), &pixels, [0, 0, 7])?;
-    check_spoil(replies.next(), Err(SpoilRefusal::NoRowMade))?;
-    check_tally(replies.next(), (0, 2, 5))?;
-    assert!(replies.next().is_none());
+    check_spoil(rt, replies.next(), Ok(2))?;
+    check_row(
+        rt,
+        replies.next(),
+        Err(RowRefusal::TapeEnd),
+        &pixels,
+        [0, 0, 7],
+    )?;
+    check_spoil(rt, replies.next(), Err(SpoilRefusal::NoRowMade))?;
+    check_tally(rt, replies.next(), (0, 2, 5))?;
+    assert!(rt; replies.next().is_none());
     Ok(log.closed)
 }
 
@@ -280,13 +298,13 @@ fn whole_run_closed(rt: HostRuntime) -> Result<(), Fail> {
         taken: 5,
         is_full: false,
     };
-    assert_eq!(rt; played(rt, true)?, Some(closed));
+    assert_eq!(rt; played(&rt, rt.alloc(), true)?, Some(closed));
     Ok(())
 }
 
 #[test]
 fn whole_run_left_open(rt: HostRuntime) -> Result<(), Fail> {
-    assert_eq!(rt; played(rt, false)?, None);
+    assert_eq!(rt; played(&rt, rt.alloc(), false)?, None);
     Ok(())
 }
 

@@ -1,6 +1,6 @@
 use Rattle.std.proofs.Common.{sym, ◌∙◌, arith, below_more}
 use Rattle.cumulative.specs.Access.{numbers}
-use Rattle.cumulative.specs.AccessFacts.{maximal_not_qualified, is-maximal, maximal_by_one, maximal_not_by}
+use Rattle.cumulative.specs.AccessFacts.{maximal_not_qualified, is_maximal, maximal_by_one, maximal_not_by}
 use Rattle.cumulative.proofs.SetsFacts.{join_yes, join_no}
 use Rattle.cumulative.proofs.sets.is_maximal.Goals as goal
 
@@ -22,6 +22,6 @@ loop-k-preserved c =
 pub returns : goal.returns
 returns c =
     let minimal = numbers c.args.minimal.now in
-    sym (is-maximal c.args.n minimal c.args.set.bits c.requires.among
+    sym (is_maximal c.args.n minimal c.args.set.bits c.requires.among
     (maximal_by_one c.args.n minimal c.args.set.bits c.requires.among (sym c.is_qualified.ensures ∙ c.if-is_qualified.false)
     (λ k l. c.loop-k.invariant k (omega arith))))

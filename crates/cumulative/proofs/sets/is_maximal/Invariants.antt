@@ -1,5 +1,5 @@
 use Rattle.std.proofs.Common.{◌≡◌, ℕ, ◌^◌, ◌<◌, true, false}
-use lib.Bits.{bit_or}
+use Rattle.std.specs.Int.Bits.{bit_or}
 use Rattle.schemes.specs.Bits.{bit}
 use Rattle.cumulative.specs.Access.{numbers, qualifies}
 use Rattle.cumulative.proofs.sets.is_maximal.Given as goal

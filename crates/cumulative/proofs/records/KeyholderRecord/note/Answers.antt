@@ -1,5 +1,5 @@
 use Rattle.std.proofs.Common.{ℕ, suc, Bool, ◌||◌, eqb, ap, ◌∙◌, add-one}
-use lib.Dec.{eqb-suc-suc}
+use Rattle.std.proofs.Math.Dec.{eqb-suc-suc}
 use Rattle.cumulative.specs.Records.{noted}
 use Rattle.cumulative.proofs.records.KeyholderRecord.note.Goals as goal
 
