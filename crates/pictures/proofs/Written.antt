@@ -1,15 +1,16 @@
 -- Bytes and decimal numbers written over the front of a buffer, and the head that they make. Serves the contract of `head`.
 -- Assumes nothing.
-use Rattle.std.proofs.Common.{◌≡◌, ℕ, ◌+◌, ◌/◌, ◌%◌, ◌^◌, ◌<◌, ◌≤◌, true, not, List, [], ◌∷◌, ◌++◌, length, get_or, take, drop, set, Ok, decimal, sym, refl, ap, ◌∙◌, inl, inr, append_assoc, arith, length-append, take-append-drop, rules}
+use Rattle.std.proofs.Common.{◌≡◌, ℕ, ◌+◌, ◌/◌, ◌%◌, ◌^◌, ◌<◌, ◌≤◌, true, not, List, [], ◌∷◌, ◌++◌, length, get_or, take, drop, set, Ok, Err, decimal, sym, refl, ap, ◌∙◌, inl, inr, append_assoc, arith, length-append, take-append-drop, rules}
 use Rattle.std.proofs.lemmas.List.{length_push, length-take-le, drop_more, set_at, take_at}
 use Rattle.std.proofs.lemmas.Slice.{drop-append-drop}
-use Rattle.std.proofs.lemmas.Bool.{cond-false, le-ltb}
+use Rattle.std.proofs.lemmas.Bool.{cond-true, cond-false, lt-ltb, le-ltb}
 use Rattle.std.proofs.lemmas.Fmt.{decimal_digit, decimal_step, decimal_nonempty, digits_decimal, digits_value-decimal}
 use Rattle.std.proofs.lemmas.Str.Parse.{IsNumeralModel, numerals_by_fold}
 use Rattle.pictures.specs.Rows.{RowsFit}
 use Rattle.pictures.specs.Format.{Digits, value_after, Number, nothing, white, PictureFile}
 use Rattle.pictures.specs.Reading.{got, opened}
 use Rattle.pictures.specs.Head.{head_of, over_front, within_size, heading}
+use Rattle.pictures.specs.declared.refusals.HeadRefusal.TheVariants.{BufferShort}
 use Rattle.pictures.proofs.Grammar.{complete}
 
 -- ---- over the front of a buffer
@@ -56,6 +57,9 @@ put_only s at n lt h =
 -- ---- the head
 pub length_head : (w h : ℕ) → length (head_of w h) ≡ 3 + length (decimal w) + 1 + length (decimal h) + 1
 length_head w h = simp length-append (omega arith)
+
+pub heading_short : (w h : ℕ) (buf : List ℕ) → within_size w h ≡ true → length buf < length (head_of w h) → heading w h buf ≡ record { answer = Err BufferShort; leaves = buf }
+heading_short w h buf e lt = cond-false _ _ _ (ap not e) ∙ cond-true _ _ _ (lt-ltb _ _ lt)
 
 pub heading_fits : (w h : ℕ) (buf : List ℕ) → within_size w h ≡ true → length (head_of w h) ≤ length buf → heading w h buf ≡ record { answer = Ok (length (head_of w h)); leaves = over_front (head_of w h) buf }
 heading_fits w h buf e le = cond-false _ _ _ (ap not e) ∙ cond-false _ _ _ (le-ltb _ _ le)
