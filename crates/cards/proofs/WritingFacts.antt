@@ -1,206 +1,193 @@
 -- What is written opens again, and whatever is acceptable is written.
-use mathlib.Core.Path.{_≡_, refl, sym, ap, subst, _∙_}
-use mathlib.Core.Logic.{_⊎_, inl, inr}
-use mathlib.Core.Bool.{Bool, true, false, not, cond, _||_}
-use mathlib.Core.List.{List, [], _∷_}
-use Prim.Native.Nat.{ℕ, _+_, _≤_, _<_}
-use native.Mathlib.Omega.{arith}
-use lib.Dec.{ltb, eqb}
-use lib.ListN.{length}
-use Rattle·std.specs.Options.{isSome, orOther}
-use Rattle·std.specs.Results.{Cases}
-use Rattle·std.specs.Vec.{made}
-use Rattle·std.specs.declared.option.Option.{Option}
-use Rattle·std.specs.declared.option.Option.the-variants.{Some, None}
-use Rattle·std.specs.declared.result.Result.{Result}
-use Rattle·std.specs.declared.result.Result.the-variants.{Ok, Err}
-use Rattle·std.proofs.shelf.Tests.{cond-false, le-ltb, ltb-false, eqb-true}
-use Rattle·std.proofs.shelf.Ways.{tells}
-use Rattle·schemes.specs.Meaning.{Meaning}
-use Rattle·schemes.specs.Refusals.{refusal-in, keyholders-from}
-use Rattle·schemes.specs.declared.keyholders.KeyholderSet.{KeyholderSet}
-use Rattle·schemes.specs.declared.refusals.SchemeRefusal.{SchemeRefusal}
-use Rattle·schemes.specs.declared.refusals.SchemeRefusal.the-variants.{ListLength}
-use Rattle·cumulative.specs.Access.{numbers}
-use Rattle·cumulative.specs.Making.{most-sets, making-refusal, when}
-use Rattle·cards·specs.Answers.{NoMemory, Answers}
-use Rattle·cards·specs.Format.{Contents, says, card-bytes, Rising, SetsByKind, IsCard}
-use Rattle·cards·specs.Reading.{rising-front, reading}
-use Rattle·cards·specs.Schemes.{refusal-of, meaning-of, made-in-memory, unless-refused, making, with-scheme, OpensAs}
-use Rattle·cards·specs.Writing.{stray-sets, unordered-sets, sets-fault, sets-fit, first-set-at, unless-faulty, writing, RefusesAsOpening, Acceptable}
-use Rattle·cards·specs.declared.card.CardKind.{CardKind}
-use Rattle·cards·specs.declared.card.CardKind.the-variants.{AllOf, TwoOf, Sets}
-use Rattle·cards·specs.declared.faults.CardRefusal.the-variants.{WrongSets}
-use Rattle·cards·specs.declared.faults.CardFault.{CardFault}
-use Rattle·cards·specs.declared.faults.CardFault.the-variants.{Format, Scheme}
-use Rattle·cards·proofs.ContentsFacts.{numbers-length}
-use Rattle·cards·proofs.FormatFacts.{card-is-read, read-sets}
-use Rattle·cards·proofs.RisingFacts.{rises, all-rise}
+use Rattle.std.proofs.Common.{◌≡◌, ℕ, ◌+◌, ◌<◌, ◌≤◌, Bool, true, false, cond, not, ◌||◌, eqb, ltb, ◌⊎◌, List, [], ◌∷◌, length, is_some, IfOk, Some, None, Ok, Err, Option, Result, sym, refl, ap, ◌∙◌, subst, inl, inr, arith, MatchResult}
+use Rattle.std.specs.Option.{option_or}
+use Rattle.std.proofs.lemmas.Bool.{cond-false, le-ltb, ltb-false, eqb-true}
+use Rattle.std.proofs.lemmas.Bool.Decides.{nat_tests}
+use Rattle.schemes.specs.Meaning.{Meaning}
+use Rattle.schemes.specs.Refusals.{refusal_in, keyholders_from}
+use Rattle.schemes.specs.declared.keyholders.KeyholderSet.{KeyholderSet}
+use Rattle.schemes.specs.declared.refusals.SchemeRefusal.{SchemeRefusal}
+use Rattle.schemes.specs.declared.refusals.SchemeRefusal.TheVariants.{ListLength}
+use Rattle.cumulative.specs.Access.{numbers}
+use Rattle.cumulative.specs.Making.{most_sets, making_refusal, when}
+use Rattle.cards.specs.Answers.{NoMemory, Answers}
+use Rattle.cards.specs.Format.{Contents, says, card_bytes, Rising, SetsByKind, IsCard}
+use Rattle.cards.specs.Reading.{rising_front, reading}
+use Rattle.cards.specs.Schemes.{refusal_of, meaning_of, made_in_memory, unless_refused, making, with_scheme, OpensAs}
+use Rattle.cards.specs.Writing.{stray_sets, unordered_sets, sets_fault, sets_fit, first_set_at, unless_faulty, writing, RefusesAsOpening, Acceptable}
+use Rattle.cards.specs.declared.card.CardKind.{CardKind}
+use Rattle.cards.specs.declared.card.CardKind.TheVariants.{AllOf, TwoOf, Sets}
+use Rattle.cards.specs.declared.faults.CardRefusal.TheVariants.{WrongSets}
+use Rattle.cards.specs.declared.faults.CardFault.{CardFault}
+use Rattle.cards.specs.declared.faults.CardFault.TheVariants.{Format, Scheme}
+use Rattle.cards.proofs.ContentsFacts.{numbers_length}
+use Rattle.cards.proofs.FormatFacts.{card_is_read, read_sets}
+use Rattle.cards.proofs.RisingFacts.{rises, all_rise}
 
 -- ---- sets that can stand in a card
 
-some-or-none : {A : Type 0} {x : A} → Some x ≡ None → ⊥
-some-or-none e = let z : _≡_ {A = ℕ} 0 1 = cc in omega arith
+some_or_none : {A : Type 0} {x : A} → Some x ≡ None → ⊥
+some_or_none e = let z : ◌≡◌ {A = ℕ} 0 1 = cc in omega arith
 
-test-failed : {A : Type 0} (b : Bool) (x : A) → cond b (Some x) None ≡ None → b ≡ false
-test-failed true x e = absurd (some-or-none e)
-test-failed false x e = refl
+test_failed : {A : Type 0} (b : Bool) (x : A) → cond b (Some x) None ≡ None → b ≡ false
+test_failed true x e = absurd (some_or_none e)
+test_failed false x e = refl
 
-none-stray : (sets : List ℕ) → stray-sets sets ≡ None → sets ≡ []
-none-stray [] e = refl
-none-stray (x ∷ sets) e = absurd (some-or-none e)
+none_stray : (sets : List ℕ) → stray_sets sets ≡ None → sets ≡ []
+none_stray [] e = refl
+none_stray (x ∷ sets) e = absurd (some_or_none e)
 
-pub none-given : (sets : List ℕ) → length sets ≡ 0 → None ≡ stray-sets sets
-none-given [] e = refl
-none-given (x ∷ sets) e = absurd (omega arith)
+pub none_given : (sets : List ℕ) → length sets ≡ 0 → None ≡ stray_sets sets
+none_given [] e = refl
+none_given (x ∷ sets) e = absurd (omega arith)
 
-pub some-given : (sets : List ℕ) → (length sets ≡ 0 → ⊥) → Some (Format WrongSets 0) ≡ stray-sets sets
-some-given [] never = absurd (never refl)
-some-given (x ∷ sets) never = refl
+pub some_given : (sets : List ℕ) → (length sets ≡ 0 → ⊥) → Some (Format WrongSets 0) ≡ stray_sets sets
+some_given [] never = absurd (never refl)
+some_given (x ∷ sets) never = refl
 
-in-order : (n : ℕ) (sets : List ℕ) → unordered-sets n sets ≡ None → Rising sets
-in-order n sets e = rises sets (ltb-false (rising-front sets) (length sets) (test-failed (ltb (rising-front sets) (length sets)) _ e))
+in_order : (n : ℕ) (sets : List ℕ) → unordered_sets n sets ≡ None → Rising sets
+in_order n sets e = rises sets (ltb-false (rising_front sets) (length sets) (test_failed (ltb (rising_front sets) (length sets)) _ e))
 
-fitting : (kind : CardKind) (n : ℕ) (sets : List ℕ) → sets-fault kind n sets ≡ None → IsCard (card-bytes (says kind n sets)) (says kind n sets)
+fitting : (kind : CardKind) (n : ℕ) (sets : List ℕ) → sets_fault kind n sets ≡ None → IsCard (card_bytes (says kind n sets)) (says kind n sets)
 fitting AllOf n sets e =
-    let none = none-stray sets e in
-    record { sets-by-kind = λ _. none; rising-order = subst Rising (sym none) tt; layout = refl }
+    let none = none_stray sets e in
+    record { sets_by_kind = λ _. none; rising_order = subst Rising (sym none) tt; layout = refl }
 fitting TwoOf n sets e =
-    let none = none-stray sets e in
-    record { sets-by-kind = λ _. none; rising-order = subst Rising (sym none) tt; layout = refl }
-fitting Sets n sets e = record { sets-by-kind = λ never. absurd (never refl); rising-order = in-order n sets e; layout = refl }
+    let none = none_stray sets e in
+    record { sets_by_kind = λ _. none; rising_order = subst Rising (sym none) tt; layout = refl }
+fitting Sets n sets e = record { sets_by_kind = λ never. absurd (never refl); rising_order = in_order n sets e; layout = refl }
 
-none-faulty : (kind : CardKind) (n : ℕ) (sets : List ℕ) → ((kind ≡ Sets → ⊥) → sets ≡ []) → Rising sets → sets-fault kind n sets ≡ None
-none-faulty AllOf n sets none up = ap stray-sets (none (λ e. (let z : _≡_ {A = ℕ} 0 1 = cc in omega arith)))
-none-faulty TwoOf n sets none up = ap stray-sets (none (λ e. (let z : _≡_ {A = ℕ} 0 1 = cc in omega arith)))
-none-faulty Sets n sets none up =
-    let all = all-rise sets up in
-    cond-false (ltb (rising-front sets) (length sets)) _ _ (le-ltb (rising-front sets) (length sets) (omega arith))
+none_faulty : (kind : CardKind) (n : ℕ) (sets : List ℕ) → ((kind ≡ Sets → ⊥) → sets ≡ []) → Rising sets → sets_fault kind n sets ≡ None
+none_faulty AllOf n sets none up = ap stray_sets (none (λ e. (let z : ◌≡◌ {A = ℕ} 0 1 = cc in omega arith)))
+none_faulty TwoOf n sets none up = ap stray_sets (none (λ e. (let z : ◌≡◌ {A = ℕ} 0 1 = cc in omega arith)))
+none_faulty Sets n sets none up =
+    let all = all_rise sets up in
+    cond-false (ltb (rising_front sets) (length sets)) _ _ (le-ltb (rising_front sets) (length sets) (omega arith))
 
 -- ---- what is written
 
 -- what writing passed
 writes : (fault : Option CardFault) (refusal : Option SchemeRefusal) (laid bytes : List ℕ)
-    → unless-faulty fault (unless-refused refusal laid) ≡ Ok bytes → (fault ≡ None) × (refusal ≡ None) × (laid ≡ bytes)
+    → unless_faulty fault (unless_refused refusal laid) ≡ Ok bytes → (fault ≡ None) × (refusal ≡ None) × (laid ≡ bytes)
 writes None None laid bytes e = (refl, refl, cc)
-writes None (Some why) laid bytes e = let z : _≡_ {A = ℕ} 0 1 = cc in absurd (omega arith)
-writes (Some why) refusal laid bytes e = let z : _≡_ {A = ℕ} 0 1 = cc in absurd (omega arith)
+writes None (Some why) laid bytes e = let z : ◌≡◌ {A = ℕ} 0 1 = cc in absurd (omega arith)
+writes (Some why) refusal laid bytes e = let z : ◌≡◌ {A = ℕ} 0 1 = cc in absurd (omega arith)
 
-written-opens : (c : Contents) (bytes : List ℕ) → writing c ≡ Ok bytes → OpensAs bytes c
-written-opens c bytes e =
-    let w = writes (sets-fault (c .kind) (c .n) (c .sets)) (refusal-of (c .kind) (c .n) (c .sets)) (card-bytes c) bytes e in
-    ap (λ b. with-scheme (reading b)) (sym (w .2))
-    ∙ ap with-scheme (card-is-read (card-bytes c) c (fitting (c .kind) (c .n) (c .sets) (w .0)))
-    ∙ ap (λ r. unless-refused r (c, meaning-of (c .kind) (c .n) (c .sets))) (w .1)
+written_opens : (c : Contents) (bytes : List ℕ) → writing c ≡ Ok bytes → OpensAs bytes c
+written_opens c bytes e =
+    let w = writes (sets_fault c.kind c.n c.sets) (refusal_of c.kind c.n c.sets) (card_bytes c) bytes e in
+    ap (λ b. with_scheme (reading b)) (sym w.2)
+    ∙ ap with_scheme (card_is_read (card_bytes c) c (fitting c.kind c.n c.sets w.0))
+    ∙ ap (λ r. unless_refused r (c, meaning_of c.kind c.n c.sets)) w.1
 
-acceptable-written : (c : Contents) → Acceptable c → writing c ≡ Ok (card-bytes c)
-acceptable-written c a =
-    ap (λ f. unless-faulty f (unless-refused (refusal-of (c .kind) (c .n) (c .sets)) (card-bytes c)))
-    (none-faulty (c .kind) (c .n) (c .sets) (a .sets-by-kind) (a .rising-order))
-    ∙ ap (λ r. unless-refused r (card-bytes c)) (a .scheme-made)
+acceptable_written : (c : Contents) → Acceptable c → writing c ≡ Ok (card_bytes c)
+acceptable_written c a =
+    ap (λ f. unless_faulty f (unless_refused (refusal_of c.kind c.n c.sets) (card_bytes c)))
+    (none_faulty c.kind c.n c.sets a.sets_by_kind a.rising_order)
+    ∙ ap (λ r. unless_refused r (card_bytes c)) a.scheme_made
 
 -- ---- the ways out of `write`
 
-pub sets-refused : (c : Contents) (why : CardFault) → sets-fault (c .kind) (c .n) (c .sets) ≡ Some why → writing c ≡ Err why
-sets-refused c why e = ap (λ f. unless-faulty f (unless-refused (refusal-of (c .kind) (c .n) (c .sets)) (card-bytes c))) e
+pub sets_refused : (c : Contents) (why : CardFault) → sets_fault c.kind c.n c.sets ≡ Some why → writing c ≡ Err why
+sets_refused c why e = ap (λ f. unless_faulty f (unless_refused (refusal_of c.kind c.n c.sets) (card_bytes c))) e
 
-sets-pass : (c : Contents) → sets-fault (c .kind) (c .n) (c .sets) ≡ None → sets-fit c ≡ true
-sets-pass c e = ap (λ f. not (isSome {T = CardFault} f)) e
+sets_pass : (c : Contents) → sets_fault c.kind c.n c.sets ≡ None → sets_fit c ≡ true
+sets_pass c e = ap (λ f. not (is_some {T = CardFault} f)) e
 
-same-refusal : {A B : Type 0} (refusal : Option SchemeRefusal) (a : A) (b : B) (why : CardFault)
-    → unless-refused refusal a ≡ Err why → unless-refused refusal b ≡ Err why
-same-refusal None a b why e = let z : _≡_ {A = ℕ} 0 1 = cc in absurd (omega arith)
-same-refusal (Some inner) a b why e = let f : Scheme inner ≡ why = cc in ap Err f
+same_refusal : {A B : Type 0} (refusal : Option SchemeRefusal) (a : A) (b : B) (why : CardFault)
+    → unless_refused refusal a ≡ Err why → unless_refused refusal b ≡ Err why
+same_refusal None a b why e = let z : ◌≡◌ {A = ℕ} 0 1 = cc in absurd (omega arith)
+same_refusal (Some inner) a b why e = let f : Scheme inner ≡ why = cc in ap Err f
 
-none-refused : {A : Type 0} (refusal : Option SchemeRefusal) (a b : A) → unless-refused refusal a ≡ Ok b → refusal ≡ None
-none-refused None a b e = refl
-none-refused (Some inner) a b e = let z : _≡_ {A = ℕ} 0 1 = cc in absurd (omega arith)
+none_refused : {A : Type 0} (refusal : Option SchemeRefusal) (a b : A) → unless_refused refusal a ≡ Ok b → refusal ≡ None
+none_refused None a b e = refl
+none_refused (Some inner) a b e = let z : ◌≡◌ {A = ℕ} 0 1 = cc in absurd (omega arith)
 
 -- the scheme's refusal is passed on; where there is no memory for the scheme, that is
-pub scheme-refused : (c : Contents) (inner why : CardFault) → why ≡ inner → sets-fault (c .kind) (c .n) (c .sets) ≡ None
-    → (making c ≡ Err inner) ⊎ (NoMemory inner × (made-in-memory (c .kind) ≡ true)) → (writing c ≡ Err why) ⊎ (NoMemory why × (sets-fit c ≡ true))
-scheme-refused c inner why same e (inl r) =
-    inl (ap (λ f. unless-faulty f (unless-refused (refusal-of (c .kind) (c .n) (c .sets)) (card-bytes c))) e
-    ∙ same-refusal (refusal-of (c .kind) (c .n) (c .sets)) _ (card-bytes c) inner r ∙ ap Err (sym same))
-scheme-refused c inner why same e (inr p) = inr (subst NoMemory (sym same) (p .0), sets-pass c e)
+pub scheme_refused : (c : Contents) (inner why : CardFault) → why ≡ inner → sets_fault c.kind c.n c.sets ≡ None
+    → (making c ≡ Err inner) ⊎ (NoMemory inner × (made_in_memory c.kind ≡ true)) → (writing c ≡ Err why) ⊎ (NoMemory why × (sets_fit c ≡ true))
+scheme_refused c inner why same e (inl r) =
+    inl (ap (λ f. unless_faulty f (unless_refused (refusal_of c.kind c.n c.sets) (card_bytes c))) e
+    ∙ same_refusal (refusal_of c.kind c.n c.sets) _ (card_bytes c) inner r ∙ ap Err (sym same))
+scheme_refused c inner why same e (inr p) = inr (subst NoMemory (sym same) p.0, sets_pass c e)
 
-pub scheme-is-made : (c : Contents) (s : Meaning) → making c ≡ Ok s → refusal-of (c .kind) (c .n) (c .sets) ≡ None
-scheme-is-made c s r = none-refused (refusal-of (c .kind) (c .n) (c .sets)) _ s r
+pub scheme_is_made : (c : Contents) (s : Meaning) → making c ≡ Ok s → refusal_of c.kind c.n c.sets ≡ None
+scheme_is_made c s r = none_refused (refusal_of c.kind c.n c.sets) _ s r
 
-pub written-answer : {A : Type 0} (meaning : A → List ℕ) (c : Contents) (r : Result A CardFault)
-    → sets-fault (c .kind) (c .n) (c .sets) ≡ None → refusal-of (c .kind) (c .n) (c .sets) ≡ None
-    → Cases r (λ v. meaning v ≡ card-bytes c) NoMemory → Answers meaning (writing c) (sets-fit c) r
-written-answer meaning c (Ok v) e r is =
-    ap (λ f. unless-faulty f (unless-refused (refusal-of (c .kind) (c .n) (c .sets)) (card-bytes c))) e
-    ∙ ap (λ f. unless-refused f (card-bytes c)) r ∙ ap Ok (sym is)
-written-answer meaning c (Err why) e r none = inr (none, sets-pass c e)
+pub written_answer : {A : Type 0} (meaning : A → List ℕ) (c : Contents) (r : Result A CardFault)
+    → sets_fault c.kind c.n c.sets ≡ None → refusal_of c.kind c.n c.sets ≡ None
+    → MatchResult r (λ v. meaning v ≡ card_bytes c) NoMemory → Answers meaning (writing c) (sets_fit c) r
+written_answer meaning c (Ok v) e r is =
+    ap (λ f. unless_faulty f (unless_refused (refusal_of c.kind c.n c.sets) (card_bytes c))) e
+    ∙ ap (λ f. unless_refused f (card_bytes c)) r ∙ ap Ok (sym is)
+written_answer meaning c (Err why) e r none = inr (none, sets_pass c e)
 
 -- ---- what opening the bytes answers
 
-reading-or : Option CardFault → Contents → Result Contents CardFault
-reading-or None c = Ok c
-reading-or (Some why) c = Err why
+reading_or : Option CardFault → Contents → Result Contents CardFault
+reading_or None c = Ok c
+reading_or (Some why) c = Err why
 
-by-test : (broken : Bool) (why : CardFault) (c : Contents) → cond broken (Err why) (Ok c) ≡ reading-or (cond broken (Some why) None) c
-unfolding reading-or
-by-test true why c = refl
-by-test false why c = refl
+by_test : (broken : Bool) (why : CardFault) (c : Contents) → cond broken (Err why) (Ok c) ≡ reading_or (cond broken (Some why) None) c
+unfolding reading_or
+by_test true why c = refl
+by_test false why c = refl
 
-laid-out-read : (kind : CardKind) (n : ℕ) (sets : List ℕ) → SetsByKind (says kind n sets)
-    → reading (card-bytes (says kind n sets)) ≡ reading-or (sets-fault kind n sets) (says kind n sets)
-unfolding reading-or
-laid-out-read AllOf n sets none =
-    let fits = none-faulty AllOf n sets none (subst Rising (sym (none (λ e. (let z : _≡_ {A = ℕ} 0 1 = cc in omega arith)))) tt) in
-    card-is-read _ (says AllOf n sets) (fitting AllOf n sets fits) ∙ ap (λ f. reading-or f (says AllOf n sets)) (sym fits)
-laid-out-read TwoOf n sets none =
-    let fits = none-faulty TwoOf n sets none (subst Rising (sym (none (λ e. (let z : _≡_ {A = ℕ} 0 1 = cc in omega arith)))) tt) in
-    card-is-read _ (says TwoOf n sets) (fitting TwoOf n sets fits) ∙ ap (λ f. reading-or f (says TwoOf n sets)) (sym fits)
-laid-out-read Sets n sets none =
-    read-sets n sets ∙ by-test (ltb (rising-front sets) (length sets)) (Format WrongSets (first-set-at n + rising-front sets)) (says Sets n sets)
+laid_out_read : (kind : CardKind) (n : ℕ) (sets : List ℕ) → SetsByKind (says kind n sets)
+    → reading (card_bytes (says kind n sets)) ≡ reading_or (sets_fault kind n sets) (says kind n sets)
+unfolding reading_or
+laid_out_read AllOf n sets none =
+    let fits = none_faulty AllOf n sets none (subst Rising (sym (none (λ e. (let z : ◌≡◌ {A = ℕ} 0 1 = cc in omega arith)))) tt) in
+    card_is_read _ (says AllOf n sets) (fitting AllOf n sets fits) ∙ ap (λ f. reading_or f (says AllOf n sets)) (sym fits)
+laid_out_read TwoOf n sets none =
+    let fits = none_faulty TwoOf n sets none (subst Rising (sym (none (λ e. (let z : ◌≡◌ {A = ℕ} 0 1 = cc in omega arith)))) tt) in
+    card_is_read _ (says TwoOf n sets) (fitting TwoOf n sets fits) ∙ ap (λ f. reading_or f (says TwoOf n sets)) (sym fits)
+laid_out_read Sets n sets none =
+    read_sets n sets ∙ by_test (ltb (rising_front sets) (length sets)) (Format WrongSets (first_set_at n + rising_front sets)) (says Sets n sets)
 
-same-refusal-in : {A B : Type 0} (refusal : Option SchemeRefusal) (a : A) (b : B) → refusal-in (unless-refused refusal a) ≡ refusal-in (unless-refused refusal b)
-same-refusal-in None a b = refl
-same-refusal-in (Some why) a b = refl
+same_refusal_in : {A B : Type 0} (refusal : Option SchemeRefusal) (a : A) (b : B) → refusal_in (unless_refused refusal a) ≡ refusal_in (unless_refused refusal b)
+same_refusal_in None a b = refl
+same_refusal_in (Some why) a b = refl
 
-same-fault : (fault : Option CardFault) (c : Contents)
-    → refusal-in (with-scheme (reading-or fault c)) ≡ refusal-in (unless-faulty fault (unless-refused (refusal-of (c .kind) (c .n) (c .sets)) (card-bytes c)))
-unfolding reading-or
-same-fault None c = same-refusal-in (refusal-of (c .kind) (c .n) (c .sets)) _ (card-bytes c)
-same-fault (Some why) c = refl
+same_fault : (fault : Option CardFault) (c : Contents)
+    → refusal_in (with_scheme (reading_or fault c)) ≡ refusal_in (unless_faulty fault (unless_refused (refusal_of c.kind c.n c.sets) (card_bytes c)))
+unfolding reading_or
+same_fault None c = same_refusal_in (refusal_of c.kind c.n c.sets) _ (card_bytes c)
+same_fault (Some why) c = refl
 
-pub as-opening : (c : Contents) → RefusesAsOpening c
-as-opening c none =
-    ap (λ r. refusal-in (with-scheme r)) (laid-out-read (c .kind) (c .n) (c .sets) none)
-    ∙ same-fault (sets-fault (c .kind) (c .n) (c .sets)) c
+pub as_opening : (c : Contents) → RefusesAsOpening c
+as_opening c none =
+    ap (λ r. refusal_in (with_scheme r)) (laid_out_read c.kind c.n c.sets none)
+    ∙ same_fault (sets_fault c.kind c.n c.sets) c
 
 -- ---- the promises of `write`, from its answer
 
-pub opens-again : {A : Type 0} (meaning : A → List ℕ) (c : Contents) (needed : Bool) (r : Result A CardFault) → Answers meaning (writing c) needed r
-    → made r (λ v. OpensAs (meaning v) c)
-opens-again meaning c needed (Ok v) e = written-opens c (meaning v) e
-opens-again meaning c needed (Err why) e = tt
+pub opens_again : {A : Type 0} (meaning : A → List ℕ) (c : Contents) (needed : Bool) (r : Result A CardFault) → Answers meaning (writing c) needed r
+    → IfOk r (λ v. OpensAs (meaning v) c)
+opens_again meaning c needed (Ok v) e = written_opens c (meaning v) e
+opens_again meaning c needed (Err why) e = tt
 
-pub every-card : {A : Type 0} (meaning : A → List ℕ) (c : Contents) (needed : Bool) (r : Result A CardFault) → Answers meaning (writing c) needed r
-    → Acceptable c → Cases r (λ v. meaning v ≡ card-bytes c) NoMemory
-every-card meaning c needed (Ok v) e a = let f = sym e ∙ acceptable-written c a in cc
-every-card meaning c needed (Err why) (inl e) a = let z : _≡_ {A = ℕ} 0 1 = cc (acceptable-written c a) in absurd (omega arith)
-every-card meaning c needed (Err why) (inr p) a = p .0
+pub every_card : {A : Type 0} (meaning : A → List ℕ) (c : Contents) (needed : Bool) (r : Result A CardFault) → Answers meaning (writing c) needed r
+    → Acceptable c → MatchResult r (λ v. meaning v ≡ card_bytes c) NoMemory
+every_card meaning c needed (Ok v) e a = let f = sym e ∙ acceptable_written c a in cc
+every_card meaning c needed (Err why) (inl e) a = let z : ◌≡◌ {A = ℕ} 0 1 = cc (acceptable_written c a) in absurd (omega arith)
+every_card meaning c needed (Err why) (inr p) a = p.0
 
 -- ---- a list that makes a scheme is short
 
-or-none : {A : Type 0} (a b : Option A) → orOther a b ≡ None → (a ≡ None) × (b ≡ None)
-or-none None b e = (refl, e)
-or-none (Some x) b e = absurd (some-or-none e)
+or_none : {A : Type 0} (a b : Option A) → option_or a b ≡ None → (a ≡ None) × (b ≡ None)
+or_none None b e = (refl, e)
+or_none (Some x) b e = absurd (some_or_none e)
 
-short-test : (k : ℕ) → (ltb k 1 || ltb most-sets k) ≡ false → k ≤ most-sets
-short-test k e = grind (arith, tells)
+short_test : (k : ℕ) → (ltb k 1 || ltb most_sets k) ≡ false → k ≤ most_sets
+short_test k e = grind (arith, nat_tests)
 
-making-short : (n : ℕ) (sets : List ℕ) → making-refusal n sets ≡ None → length sets ≤ most-sets
-making-short n sets e =
-    short-test (length sets)
-    (test-failed (ltb (length sets) 1 || ltb most-sets (length sets)) ListLength (or-none _ _ (or-none (keyholders-from 1 n) _ e .1) .0))
+making_short : (n : ℕ) (sets : List ℕ) → making_refusal n sets ≡ None → length sets ≤ most_sets
+making_short n sets e =
+    short_test (length sets)
+    (test_failed (ltb (length sets) 1 || ltb most_sets (length sets)) ListLength (or_none _ _ (or_none (keyholders_from 1 n) _ e).1).0)
 
-pub few-sets : (kind : CardKind) (n : ℕ) (sets : List KeyholderSet) → refusal-of kind n (numbers sets) ≡ None → kind ≡ Sets → length sets < 256
-few-sets AllOf n sets e is = let z : _≡_ {A = ℕ} 0 1 = cc in absurd (omega arith)
-few-sets TwoOf n sets e is = let z : _≡_ {A = ℕ} 0 1 = cc in absurd (omega arith)
-few-sets Sets n sets e is = omega (arith, making-short n (numbers sets) e, numbers-length sets)
+pub few_sets : (kind : CardKind) (n : ℕ) (sets : List KeyholderSet) → refusal_of kind n (numbers sets) ≡ None → kind ≡ Sets → length sets < 256
+few_sets AllOf n sets e is = let z : ◌≡◌ {A = ℕ} 0 1 = cc in absurd (omega arith)
+few_sets TwoOf n sets e is = let z : ◌≡◌ {A = ℕ} 0 1 = cc in absurd (omega arith)
+few_sets Sets n sets e is = omega (arith, making_short n (numbers sets) e, numbers_length sets)

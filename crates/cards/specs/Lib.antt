@@ -8,3 +8,4 @@ pub mod Refusals
 pub mod Schemes
 pub mod Worked
 pub mod Writing
+pub mod CardSchemeSchemeLemmas

@@ -1,6 +1,7 @@
 // What a card says: a kind of scheme, the number of keyholders, and a list of sets.
-ghost use mathlib.Core.Path.{_≡_};
-ghost use Rattle·cards·specs.Kinds.{kind-number};
+ghost use Rattle.std.specs.Prelude.{◌≡◌};
+ghost use Rattle.cards.specs.Kinds.{kind_number};
+
 use schemes::KeyholderSet;
 
 // n where a card does not write it.
@@ -20,7 +21,7 @@ pub enum CardKind {
 impl CardKind {
     // The kind's number: 1 for all of n, 2 for two of n, 3 for sets.
     pub fn number(self) -> u8
-        ensures { λ r. ⌜ r ≡ kind-number self ⌝ }
+        ensures { result ≡ kind_number self }
     {
         match self {
             CardKind::AllOf => 1,

@@ -1,14 +1,14 @@
 // The scheme that a card names: one of the three schemes. Its meaning and its laws are those of the scheme in it.
-ghost use Rattle·cards·specs.Meanings.{scheme-meaning};
+ghost use Rattle.cards.specs.Meanings.{scheme_meaning};
+ghost use Rattle.schemes.specs.AllOfFacts.{all_of_in_range, all_of_lawful};
+ghost use Rattle.schemes.specs.TwoOfFacts.{two_of_in_range, two_of_lawful};
+ghost use Rattle.cumulative.specs.Access.{numbers};
+ghost use Rattle.cumulative.proofs.CumulativeFacts.{cumulative_in_range, cumulative_lawful};
+ghost use Rattle.cards.specs.declared.card_scheme.CardScheme.TheVariants.{All, Two, Sets};
+ghost use Rattle.cards.specs.CardSchemeSchemeLemmas.{proper_sets, few_forbidden};
+
 use cumulative::Cumulative;
-use cumulative::CumulativeScheme;
-use schemes::AllOf;
-use schemes::AllOfScheme;
-use schemes::Colour;
-use schemes::KeyholderSet;
-use schemes::Scheme;
-use schemes::TwoOf;
-use schemes::TwoOfScheme;
+use schemes::{AllOf, Colour, KeyholderSet, Scheme, TwoOf};
 
 // A scheme of one of the three kinds. It is a `Scheme` itself, so that whatever takes a scheme takes it as it is.
 #[derive(Drop)]
@@ -18,8 +18,20 @@ pub enum CardScheme {
     Sets(Cumulative),
 }
 
-pub impl Scheme for CardScheme as CardSchemeScheme {
-    ghost means = { scheme-meaning };
+impl Scheme for CardScheme {
+    ghost means = { scheme_meaning };
+
+    ghost in_range = { elim [
+      | All s ↦ all_of_in_range s.n s.least s.most
+      | Two s ↦ two_of_in_range s.n s.least s.most
+      | Sets s ↦ cumulative_in_range s.n (numbers s.minimal.items) (proper_sets s) (few_forbidden s)
+    ] };
+
+    ghost lawful = { elim [
+      | All s ↦ all_of_lawful s.n s.least
+      | Two s ↦ two_of_lawful s.n s.least
+      | Sets s ↦ cumulative_lawful s.n (numbers s.minimal.items) (proper_sets s)
+    ] };
 
     fn keyholders(&self) -> u8 {
         match self {

@@ -1,14 +1,10 @@
 // Why a card is refused: the format's own refusals, and those of making the scheme, which are kept whole.
-ghost use mathlib.Core.Path.{_≡_};
-ghost use Rattle·cards·specs.Refusals.{refusal-number, fault-number, fault-place};
-ghost use Rattle·cards·specs.declared.faults.CardFault.the-variants.{Scheme, Memory};
+ghost use Rattle.std.specs.Prelude.{◌≡◌};
+ghost use Rattle.cards.specs.Refusals.{refusal_number, fault_number, fault_place};
+ghost use Rattle.cards.specs.declared.faults.CardFault.TheVariants.{Scheme, Memory};
+
 use schemes::SchemeRefusal;
-use schemes::SchemeRefusalDebug;
-use schemes::SchemeRefusalDisplay;
-use schemes::SchemeRefusalEq;
-use schemes::SchemeRefusalPartialEq;
-use std::alloc::AllocError;
-use std::alloc::Refused;
+use std::alloc::{AllocError, AllocFailed};
 use std::fmt;
 
 // Which rule of the format a card breaks.
@@ -29,7 +25,7 @@ pub enum CardRefusal {
 impl CardRefusal {
     // The refusal's number, 12 to 16.
     pub fn number(self) -> u8
-        ensures { λ r. ⌜ r ≡ refusal-number self ⌝ }
+        ensures { result ≡ refusal_number self }
     {
         match self {
             CardRefusal::WrongMap => 12,
@@ -66,7 +62,7 @@ pub enum CardFault {
 impl CardFault {
     // The number of the refusal, 7 to 16; 0 for want of memory.
     pub fn number(self) -> u8
-        ensures { λ r. ⌜ r ≡ fault-number self ⌝ }
+        ensures { result ≡ fault_number self }
     {
         match self {
             CardFault::Format(refusal, _) => refusal.number(),
@@ -77,7 +73,7 @@ impl CardFault {
 
     // The place of the fault: a byte of the card for 12 to 16, a set of its list for 9 and 10, and else 0.
     pub fn place(self) -> usize
-        ensures { λ r. ⌜ r ≡ fault-place self ⌝ }
+        ensures { result ≡ fault_place self }
     {
         match self {
             CardFault::Format(_, place) => place,
@@ -87,31 +83,31 @@ impl CardFault {
     }
 }
 
-pub impl From<SchemeRefusal> for CardFault as CardFaultFromScheme {
-    ghost converts = { λ inner fault. fault ≡ Scheme inner };
+impl From<SchemeRefusal> for CardFault {
+    ghost from_gives = { λ inner fault. fault ≡ Scheme inner };
 
     fn from(inner: SchemeRefusal) -> CardFault {
         CardFault::Scheme(inner)
     }
 }
 
-pub impl From<AllocError> for CardFault as CardFaultFromAlloc {
-    ghost converts = { λ _ fault. fault ≡ Memory };
+impl From<AllocError> for CardFault {
+    ghost from_gives = { λ _ fault. fault ≡ Memory };
 
     fn from(_e: AllocError) -> CardFault {
         CardFault::Memory
     }
 }
 
-pub impl<T: Drop> From<Refused<T>> for CardFault as CardFaultFromRefused {
-    ghost converts = { λ _ fault. fault ≡ Memory };
+impl<T: Drop> From<AllocFailed<T>> for CardFault {
+    ghost from_gives = { λ _ fault. fault ≡ Memory };
 
-    fn from(_e: Refused<T>) -> CardFault {
+    fn from(_e: AllocFailed<T>) -> CardFault {
         CardFault::Memory
     }
 }
 
-pub impl fmt::Display for CardFault as CardFaultDisplay {
+impl fmt::Display for CardFault {
     fn fmt<W: fmt::Write>(&self, f: &mut fmt::Formatter<W>) -> fmt::Result {
         match *self {
             CardFault::Format(refusal, place) => {

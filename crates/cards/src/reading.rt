@@ -1,24 +1,15 @@
 // Reading a card: its fields are found by the map, and the rules of the format are checked in the order of their numbers.
-ghost use mathlib.Core.Path.{_≡_};
-ghost use Prim.Native.Nat.{ℕ, _<_};
-ghost use lib.ListN.{length};
-ghost use Rattle·std.specs.Results.{Cases};
-ghost use Rattle·std.specs.Of.Vec.{vec-items};
-ghost use Rattle·std.specs.declared.result.Result.the-variants.{Ok, Err};
-ghost use Rattle·cumulative.specs.Access.{numbers};
-ghost use Rattle·cards·specs.Answers.{NoMemory, Answers};
-ghost use Rattle·cards·specs.Contents.{contents};
-ghost use Rattle·cards·specs.Format.{says, IsCard, NoCard, Canonical};
-ghost use Rattle·cards·specs.Kinds.{kind-numbered};
-ghost use Rattle·cards·specs.Schemes.{names-sets};
-ghost use Rattle·cards·specs.Reading.{map-bit, field-or, rising-front, reading};
-use crate::Card;
-use crate::CardFault;
-use crate::CardFaultFromRefused;
-use crate::CardKind;
-use crate::CardKindPartialEq;
-use crate::CardRefusal;
+ghost use Rattle.std.specs.Prelude.{◌≡◌, ℕ, ◌<◌, length, Ok, Err, MatchResult};
+ghost use Rattle.cumulative.specs.Access.{numbers};
+ghost use Rattle.cards.specs.Answers.{NoMemory, Answers};
+ghost use Rattle.cards.specs.Contents.{contents};
+ghost use Rattle.cards.specs.Format.{says, IsCard, NoCard, Canonical};
+ghost use Rattle.cards.specs.Kinds.{kind_numbered};
+ghost use Rattle.cards.specs.Schemes.{names_sets};
+ghost use Rattle.cards.specs.Reading.{map_bit, field_or, rising_front, reading};
+
 use crate::card::UNWRITTEN_N;
+use crate::{Card, CardFault, CardKind, CardRefusal};
 use schemes::KeyholderSet;
 use std::alloc::Global;
 
@@ -30,23 +21,23 @@ const N_AT: usize = 1;
 
 // 1 where bit k of the map is set, else 0: so many bytes has the field, or for the sets their count.
 fn map_bit(map: u8, k: u32) -> usize
-    requires { ⌜ k < 8 ⌝ }
-    ensures { λ r. ⌜ r ≡ map-bit map k ⌝ }
+    requires { k < 8 }
+    ensures { result ≡ map_bit map k }
 {
     ((map >> k) % 2) as usize
 }
 
 // The byte at a place; where the next field has the same place, what its absence says.
 fn field_or(bytes: &[u8], at: usize, next: usize, absent: u8) -> u8
-    requires { ⌜ (at < next → at < length (now bytes)) ⌝ }
-    ensures { λ r. ⌜ r ≡ field-or (now (bytes .entry)) at next absent ⌝ }
+    requires { at < next → at < length bytes.now }
+    ensures { result ≡ field_or bytes.now at next absent }
 {
     if at < next { bytes[at] } else { absent }
 }
 
 // How many sets stand before the first that is not above the one before it.
 fn rising_front(sets: &[u8]) -> usize
-    ensures { λ r. ⌜ r ≡ rising-front (now (sets .entry)) ⌝ }
+    ensures { result ≡ rising_front sets.now }
 {
     if sets.is_empty() {
         return 0;
@@ -60,7 +51,7 @@ fn rising_front(sets: &[u8]) -> usize
 
 // The kind of a number; of any other number all of n.
 fn kind_numbered(number: u8) -> CardKind
-    ensures { λ r. ⌜ r ≡ kind-numbered number ⌝ }
+    ensures { result ≡ kind_numbered number }
 {
     match number {
         2 => CardKind::TwoOf,
@@ -79,7 +70,7 @@ struct Fields<'a> {
 
 // The fields of a card, or its first fault. Nothing is copied.
 fn split_fields(bytes: &[u8]) -> Result<Fields<'_>, CardFault>
-    ensures { λ r. ⌜ Cases r (λ f. reading (now (bytes .entry)) ≡ Ok (says (f .kind) (f .n) (now (f .sets)))) (λ e. reading (now (bytes .entry)) ≡ Err e) ⌝ }
+    ensures { MatchResult result (λ f. reading bytes.now ≡ Ok (says f.kind f.n f.sets.now)) (λ e. reading bytes.now ≡ Err e) }
 {
     if bytes.is_empty() || bytes[0] >= MAPS {
         return Err(CardFault::Format(CardRefusal::WrongMap, 0));
@@ -120,7 +111,7 @@ fn split_fields(bytes: &[u8]) -> Result<Fields<'_>, CardFault>
 
 // The sets of these numbers. Memory is needed for the first of them.
 fn sets_of(heap: Global, bytes: &[u8]) -> Result<Vec<KeyholderSet>, CardFault>
-    ensures { λ r. ⌜ Cases r (λ v. numbers (vec-items v) ≡ now (bytes .entry)) (λ e. NoMemory e × (0 < length (now (bytes .entry)))) ⌝ }
+    ensures { MatchResult result (λ v. numbers v.items ≡ bytes.now) (λ e. NoMemory e × (0 < length bytes.now)) }
 {
     let mut sets = Vec::new(heap);
     for byte in bytes {
@@ -132,9 +123,9 @@ fn sets_of(heap: Global, bytes: &[u8]) -> Result<Vec<KeyholderSet>, CardFault>
 // Reads a card, or answers its first fault in the order of the refusals' numbers, 12 to 16. Whether the scheme can be made is asked
 // by `open`. Only a card of sets needs memory.
 pub fn read(heap: Global, bytes: &[u8]) -> Result<Card, CardFault>
-    ensures answers { λ r. ⌜ Answers contents (reading (now (bytes .entry))) (names-sets (reading (now (bytes .entry)))) r ⌝ }
-    ensures exactly_cards { λ r. ⌜ Cases r (λ card. IsCard (now (bytes .entry)) (contents card)) (λ e. (NoMemory e → ⊥) → NoCard (now (bytes .entry))) ⌝ }
-    ensures canonical { λ _. ⌜ Canonical ⌝ }
+    ensures answers { Answers contents (reading bytes.now) (names_sets (reading bytes.now)) result }
+    ensures exactly_cards { MatchResult result (λ card. IsCard bytes.now (contents card)) (λ e. (NoMemory e → ⊥) → NoCard bytes.now) }
+    ensures canonical { Canonical }
 {
     let fields = split_fields(bytes)?;
     let sets = sets_of(heap, fields.sets)?;

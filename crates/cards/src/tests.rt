@@ -1,11 +1,9 @@
 // Cards on examples: each fault at its place, every kind, the way back, and what is not written.
 use crate::*;
-use schemes::KeyholderSet;
-use schemes::Scheme;
-use schemes::SchemeRefusal;
-use std::alloc::AllocError;
-use std::alloc::Global;
-use std::test::*;
+use schemes::{KeyholderSet, Scheme, SchemeRefusal};
+use std::alloc::{AllocError, Global};
+use std::process::Abort;
+use std::test::Fail;
 
 // Number and place of the fault that opening answers; nothing where the card is opened.
 fn fault(heap: Global, bytes: &[u8]) -> Option<(u8, usize)> {
@@ -16,7 +14,7 @@ fn fault(heap: Global, bytes: &[u8]) -> Option<(u8, usize)> {
 }
 
 #[test]
-fn faults_of_the_format(rt: LibcRuntime) -> Result<(), Fail> {
+fn faults_of_the_format(rt: HostRuntime) {
     let heap = rt.alloc();
     let table: [(&[u8], u8, usize); 26] = [
         (&[], 12, 0),
@@ -47,13 +45,12 @@ fn faults_of_the_format(rt: LibcRuntime) -> Result<(), Fail> {
         (&[7, 9, 3, 3, 3, 6, 5], 16, 6),
     ];
     for (bytes, number, place) in table {
-        check_eq(fault(heap, bytes), Some((number, place)))?;
+        assert_eq!(rt; fault(heap, bytes), Some((number, place)));
     }
-    Ok(())
 }
 
 #[test]
-fn faults_of_the_scheme(rt: LibcRuntime) -> Result<(), Fail> {
+fn faults_of_the_scheme(rt: HostRuntime) {
     let heap = rt.alloc();
     let table: [(&[u8], u8, usize); 11] = [
         (&[1, 0], 7, 0),
@@ -64,27 +61,7 @@ fn faults_of_the_scheme(rt: LibcRuntime) -> Result<(), Fail> {
         (&[6, 3, 0], 8, 0),
         (
             &[
-                7,
-                5,
-                3,
-                17,
-                1,
-                2,
-                3,
-                4,
-                5,
-                6,
-                7,
-                8,
-                9,
-                10,
-                11,
-                12,
-                13,
-                14,
-                15,
-                16,
-                17,
+                7, 5, 3, 17, 1, 2, 3, 4, 5, 6, 7, 8, 9, 10, 11, 12, 13, 14, 15, 16, 17,
             ],
             8,
             0,
@@ -95,13 +72,13 @@ fn faults_of_the_scheme(rt: LibcRuntime) -> Result<(), Fail> {
         (&[7, 5, 3, 10, 7, 11, 13, 14, 19, 21, 22, 25, 26, 28], 11, 0),
     ];
     for (bytes, number, place) in table {
-        check_eq(fault(heap, bytes), Some((number, place)))?;
+        assert_eq!(rt; fault(heap, bytes), Some((number, place)));
     }
-    Ok(())
 }
 
 // What the card says and how many columns its scheme has; and the card is written as it was.
 fn check_card(
+    rt: &impl Abort,
     heap: Global,
     bytes: &[u8],
     kind: CardKind,
@@ -110,26 +87,28 @@ fn check_card(
     columns: u8,
 ) -> Result<(), Fail> {
     let (card, named) = open(heap, bytes)?;
-    check_eq(card.kind, kind)?;
-    check_eq(card.n, n)?;
-    check_eq(card.sets.len(), sets.len())?;
+    assert_eq!(rt; card.kind, kind);
+    assert_eq!(rt; card.n, n);
+    assert_eq!(rt; card.sets.len(), sets.len());
     for (set, number) in card.sets.iter().zip(sets.iter()) {
-        check_eq(set.bits(), *number)?;
+        assert_eq!(rt; set.bits(), *number);
     }
-    check_eq(named.keyholders(), n)?;
-    check_eq(named.columns(), columns)?;
-    check(write(heap, &card)?.as_slice() == bytes)
+    assert_eq!(rt; named.keyholders(), n);
+    assert_eq!(rt; named.columns(), columns);
+    assert!(rt; write(heap, &card)?.as_slice() == bytes);
+    Ok(())
 }
 
 #[test]
-fn every_kind_and_back(rt: LibcRuntime) -> Result<(), Fail> {
+fn every_kind_and_back(rt: HostRuntime) -> Result<(), Fail> {
     let heap = rt.alloc();
-    check_card(heap, &[0], CardKind::AllOf, 2, &[], 2)?;
-    check_card(heap, &[1, 3], CardKind::AllOf, 3, &[], 4)?;
-    check_card(heap, &[2, 2], CardKind::TwoOf, 2, &[], 2)?;
-    check_card(heap, &[3, 3, 2], CardKind::TwoOf, 3, &[], 3)?;
-    check_card(heap, &[6, 3, 2, 1, 2], CardKind::Sets, 2, &[1, 2], 1)?;
+    check_card(&rt, heap, &[0], CardKind::AllOf, 2, &[], 2)?;
+    check_card(&rt, heap, &[1, 3], CardKind::AllOf, 3, &[], 4)?;
+    check_card(&rt, heap, &[2, 2], CardKind::TwoOf, 2, &[], 2)?;
+    check_card(&rt, heap, &[3, 3, 2], CardKind::TwoOf, 3, &[], 3)?;
+    check_card(&rt, heap, &[6, 3, 2, 1, 2], CardKind::Sets, 2, &[1, 2], 1)?;
     check_card(
+        &rt,
         heap,
         &[7, 4, 3, 3, 3, 6, 12],
         CardKind::Sets,
@@ -157,39 +136,44 @@ fn write_fault(
 }
 
 #[test]
-fn what_is_not_written(rt: LibcRuntime) -> Result<(), Fail> {
+fn what_is_not_written(rt: HostRuntime) -> Result<(), Fail> {
     let heap = rt.alloc();
-    check_eq(write_fault(heap, CardKind::AllOf, 2, &[1])?, Some((16, 0)))?;
-    check_eq(write_fault(heap, CardKind::TwoOf, 9, &[1])?, Some((16, 0)))?;
-    check_eq(
+    assert_eq!(rt; write_fault(heap, CardKind::AllOf, 2, &[1])?, Some((16, 0)));
+    assert_eq!(rt; write_fault(heap, CardKind::TwoOf, 9, &[1])?, Some((16, 0)));
+    assert_eq!(rt;
         write_fault(heap, CardKind::Sets, 2, &[2, 1])?,
-        Some((16, 4)),
-    )?;
-    check_eq(
+        Some((16, 4))
+    );
+    assert_eq!(rt;
         write_fault(heap, CardKind::Sets, 4, &[3, 6, 6])?,
-        Some((16, 6)),
-    )?;
-    check_eq(write_fault(heap, CardKind::AllOf, 9, &[])?, Some((7, 0)))?;
-    check_eq(write_fault(heap, CardKind::TwoOf, 1, &[])?, Some((7, 0)))?;
-    check_eq(write_fault(heap, CardKind::Sets, 3, &[])?, Some((8, 0)))?;
-    check_eq(write_fault(heap, CardKind::Sets, 3, &[1, 8])?, Some((9, 1)))?;
-    check_eq(
+        Some((16, 6))
+    );
+    assert_eq!(rt; write_fault(heap, CardKind::AllOf, 9, &[])?, Some((7, 0)));
+    assert_eq!(rt; write_fault(heap, CardKind::TwoOf, 1, &[])?, Some((7, 0)));
+    assert_eq!(rt; write_fault(heap, CardKind::Sets, 3, &[])?, Some((8, 0)));
+    assert_eq!(rt;
+        write_fault(heap, CardKind::Sets, 3, &[1, 8])?,
+        Some((9, 1))
+    );
+    assert_eq!(rt;
         write_fault(heap, CardKind::Sets, 3, &[1, 3])?,
-        Some((10, 1)),
-    )
+        Some((10, 1))
+    );
+    Ok(())
 }
 
 #[test]
-fn texts(rt: LibcRuntime) -> Result<(), Fail> {
+fn texts(rt: HostRuntime) -> Result<(), Fail> {
     let heap = rt.alloc();
     let own = CardFault::Format(CardRefusal::WrongValue, 1);
-    check_eq(
+    assert_eq!(rt;
         own.to_string(heap)?.as_str(),
-        "refused 14 at 1: n is written as 2 or the kind is neither 2 nor 3",
-    )?;
+        "refused 14 at 1: n is written as 2 or the kind is neither 2 nor 3"
+    );
     let inner = CardFault::Scheme(SchemeRefusal::Redundant(2));
-    check_eq(
+    assert_eq!(rt;
         inner.to_string(heap)?.as_str(),
-        "refused 10 at 2: the set contains another set of the list or equals it",
-    )
+        "refused 10 at 2: the set contains another set of the list or equals it"
+    );
+    Ok(())
 }

@@ -1,28 +1,17 @@
 // Writing a card: what no card can say is refused, and the rest is laid out field by field.
-ghost use mathlib.Core.Path.{_≡_};
-ghost use mathlib.Core.List.{[], _∷_, _++_};
-ghost use Prim.Native.Nat.{_<_};
-ghost use lib.ListN.{length};
-ghost use Rattle·std.specs.Results.{Cases};
-ghost use Rattle·std.specs.Of.Vec.{vec-items};
-ghost use Rattle·std.specs.Vec.{made};
-ghost use Rattle·schemes.specs.Refusals.{refusal-in};
-ghost use Rattle·cumulative.specs.Access.{numbers};
-ghost use Rattle·cards·specs.Answers.{NoMemory, Answers};
-ghost use Rattle·cards·specs.Contents.{contents};
-ghost use Rattle·cards·specs.Format.{map-from, field-bytes, n-field, kind-field, sets-field, card-fields, card-bytes};
-ghost use Rattle·cards·specs.Reading.{rising-front};
-ghost use Rattle·cards·specs.Schemes.{OpensAs};
-ghost use Rattle·cards·specs.declared.card.CardKind.the-variants.{Sets};
-ghost use Rattle·cards·specs.Writing.{first-set-at, stray-sets, unordered-sets, sets-fault, sets-fit, writing, RefusesAsOpening, Acceptable};
-use crate::Card;
-use crate::CardFault;
-use crate::CardFaultFromRefused;
-use crate::CardKind;
-use crate::CardKindPartialEq;
-use crate::CardRefusal;
+ghost use Rattle.std.specs.Prelude.{◌≡◌, ◌<◌, [], ◌∷◌, ◌++◌, length, IfOk, MatchResult};
+ghost use Rattle.schemes.specs.Refusals.{refusal_in};
+ghost use Rattle.cumulative.specs.Access.{numbers};
+ghost use Rattle.cards.specs.Answers.{NoMemory, Answers};
+ghost use Rattle.cards.specs.Contents.{contents};
+ghost use Rattle.cards.specs.Format.{map_from, field_bytes, n_field, kind_field, sets_field, card_fields, card_bytes};
+ghost use Rattle.cards.specs.Reading.{rising_front};
+ghost use Rattle.cards.specs.Schemes.{OpensAs};
+ghost use Rattle.cards.specs.declared.card.CardKind.TheVariants.{Sets};
+ghost use Rattle.cards.specs.Writing.{first_set_at, stray_sets, unordered_sets, sets_fault, sets_fit, writing, RefusesAsOpening, Acceptable};
+
 use crate::card::UNWRITTEN_N;
-use crate::scheme;
+use crate::{Card, CardFault, CardKind, CardRefusal, scheme};
 use schemes::KeyholderSet;
 use std::alloc::Global;
 
@@ -35,7 +24,7 @@ const SETS_BIT: u8 = 4;
 
 // How many sets stand before the first that is not above the one before it.
 fn count_rising(sets: &[KeyholderSet]) -> usize
-    ensures { λ r. ⌜ r ≡ rising-front (numbers (now (sets .entry))) ⌝ }
+    ensures { result ≡ rising_front (numbers sets.now) }
 {
     if sets.is_empty() {
         return 0;
@@ -49,14 +38,14 @@ fn count_rising(sets: &[KeyholderSet]) -> usize
 
 // The place of the first set: after the map, n where it is written, the kind and the count.
 fn first_set_at(n: u8) -> usize
-    ensures { λ r. ⌜ r ≡ first-set-at n ⌝ }
+    ensures { result ≡ first_set_at n }
 {
     if n == UNWRITTEN_N { 3 } else { 4 }
 }
 
 // That a kind which has no sets is given none.
 fn check_none(sets: &[KeyholderSet]) -> Result<(), CardFault>
-    ensures { λ r. ⌜ refusal-in r ≡ stray-sets (numbers (now (sets .entry))) ⌝ }
+    ensures { refusal_in result ≡ stray_sets (numbers sets.now) }
 {
     if sets.is_empty() {
         return Ok(());
@@ -66,7 +55,7 @@ fn check_none(sets: &[KeyholderSet]) -> Result<(), CardFault>
 
 // That each set is above the one before it.
 fn check_order(n: u8, sets: &[KeyholderSet]) -> Result<(), CardFault>
-    ensures { λ r. ⌜ refusal-in r ≡ unordered-sets n (numbers (now (sets .entry))) ⌝ }
+    ensures { refusal_in result ≡ unordered_sets n (numbers sets.now) }
 {
     let front = count_rising(sets);
     if front < sets.len() {
@@ -78,7 +67,7 @@ fn check_order(n: u8, sets: &[KeyholderSet]) -> Result<(), CardFault>
 
 // That a card of this kind can hold these sets.
 fn check_sets(kind: CardKind, n: u8, sets: &[KeyholderSet]) -> Result<(), CardFault>
-    ensures { λ r. ⌜ refusal-in r ≡ sets-fault kind n (numbers (now (sets .entry))) ⌝ }
+    ensures { refusal_in result ≡ sets_fault kind n (numbers sets.now) }
 {
     match kind {
         CardKind::AllOf | CardKind::TwoOf => check_none(sets),
@@ -88,7 +77,7 @@ fn check_sets(kind: CardKind, n: u8, sets: &[KeyholderSet]) -> Result<(), CardFa
 
 // The map of the fields that are written.
 fn map_of(card: &Card) -> u8
-    ensures { λ r. ⌜ r ≡ map-from 0 (card-fields (contents (now (card .entry)))) ⌝ }
+    ensures { result ≡ map_from 0 (card_fields (contents card.now)) }
 {
     let n_bit = if card.n == UNWRITTEN_N { 0 } else { N_BIT };
     match card.kind {
@@ -100,7 +89,7 @@ fn map_of(card: &Card) -> u8
 
 // The three fields: each is pushed unless it is left out.
 fn push_n(bytes: &mut Vec<u8>, n: u8) -> Result<(), CardFault>
-    ensures { λ r. ⌜ Cases r (λ _. vec-items (now (bytes .exit)) ≡ vec-items (now (bytes .entry)) ++ field-bytes (n-field n ∷ [])) NoMemory ⌝ }
+    ensures { MatchResult result (λ _. bytes.new.items ≡ bytes.old.items ++ field_bytes (n_field n ∷ [])) NoMemory }
 {
     if n != UNWRITTEN_N {
         bytes.push(n)?;
@@ -109,7 +98,7 @@ fn push_n(bytes: &mut Vec<u8>, n: u8) -> Result<(), CardFault>
 }
 
 fn push_kind(bytes: &mut Vec<u8>, kind: CardKind) -> Result<(), CardFault>
-    ensures { λ r. ⌜ Cases r (λ _. vec-items (now (bytes .exit)) ≡ vec-items (now (bytes .entry)) ++ field-bytes (kind-field kind ∷ [])) NoMemory ⌝ }
+    ensures { MatchResult result (λ _. bytes.new.items ≡ bytes.old.items ++ field_bytes (kind_field kind ∷ [])) NoMemory }
 {
     if kind != CardKind::AllOf {
         bytes.push(kind.number())?;
@@ -118,7 +107,7 @@ fn push_kind(bytes: &mut Vec<u8>, kind: CardKind) -> Result<(), CardFault>
 }
 
 fn push_numbers(bytes: &mut Vec<u8>, sets: &[KeyholderSet]) -> Result<(), CardFault>
-    ensures { λ r. ⌜ Cases r (λ _. vec-items (now (bytes .exit)) ≡ vec-items (now (bytes .entry)) ++ numbers (now (sets .entry))) NoMemory ⌝ }
+    ensures { MatchResult result (λ _. bytes.new.items ≡ bytes.old.items ++ numbers sets.now) NoMemory }
 {
     for set in sets {
         bytes.push(set.bits())?;
@@ -127,8 +116,8 @@ fn push_numbers(bytes: &mut Vec<u8>, sets: &[KeyholderSet]) -> Result<(), CardFa
 }
 
 fn push_sets(bytes: &mut Vec<u8>, kind: CardKind, sets: &[KeyholderSet]) -> Result<(), CardFault>
-    requires { ⌜ (kind ≡ Sets → length (now sets) < 256) ⌝ }
-    ensures { λ r. ⌜ Cases r (λ _. vec-items (now (bytes .exit)) ≡ vec-items (now (bytes .entry)) ++ field-bytes (sets-field kind (numbers (now (sets .entry))) ∷ [])) NoMemory ⌝ }
+    requires { kind ≡ Sets → length sets.now < 256 }
+    ensures { MatchResult result (λ _. bytes.new.items ≡ bytes.old.items ++ field_bytes (sets_field kind (numbers sets.now) ∷ [])) NoMemory }
 {
     match kind {
         CardKind::AllOf | CardKind::TwoOf => Ok(()),
@@ -141,8 +130,8 @@ fn push_sets(bytes: &mut Vec<u8>, kind: CardKind, sets: &[KeyholderSet]) -> Resu
 
 // The bytes of the card.
 fn lay_out(heap: Global, card: &Card) -> Result<Vec<u8>, CardFault>
-    requires { ⌜ (now card .kind ≡ Sets → length (vec-items (now card .sets)) < 256) ⌝ }
-    ensures { λ r. ⌜ Cases r (λ bytes. vec-items bytes ≡ card-bytes (contents (now (card .entry)))) NoMemory ⌝ }
+    requires { card.now.kind ≡ Sets → length card.now.sets.items < 256 }
+    ensures { MatchResult result (λ bytes. bytes.items ≡ card_bytes (contents card.now)) NoMemory }
 {
     let mut bytes = Vec::new(heap);
     bytes.push(map_of(card))?;
@@ -155,10 +144,10 @@ fn lay_out(heap: Global, card: &Card) -> Result<Vec<u8>, CardFault>
 // Writes the card, or answers why no card says this: 16 where the sets do not fit the kind or do not rise, at the place where
 // reading such a card would answer it, and then the refusals of making the scheme, 7 to 11. So what is written opens again.
 pub fn write(heap: Global, card: &Card) -> Result<Vec<u8>, CardFault>
-    ensures answers { λ r. ⌜ Answers (λ v. vec-items v) (writing (contents (now (card .entry)))) (sets-fit (contents (now (card .entry)))) r ⌝ }
-    ensures opens_again { λ r. ⌜ made r (λ v. OpensAs (vec-items v) (contents (now (card .entry)))) ⌝ }
-    ensures as_opening { λ _. ⌜ RefusesAsOpening (contents (now (card .entry))) ⌝ }
-    ensures every_card { λ r. ⌜ (Acceptable (contents (now (card .entry))) → Cases r (λ v. vec-items v ≡ card-bytes (contents (now (card .entry)))) NoMemory) ⌝ }
+    ensures answers { Answers (λ v. v.items) (writing (contents card.now)) (sets_fit (contents card.now)) result }
+    ensures opens_again { IfOk result (λ v. OpensAs v.items (contents card.now)) }
+    ensures as_opening { RefusesAsOpening (contents card.now) }
+    ensures every_card { Acceptable (contents card.now) → MatchResult result (λ v. v.items ≡ card_bytes (contents card.now)) NoMemory }
 {
     check_sets(card.kind, card.n, &card.sets)?;
     let _named = scheme(heap, card)?;

@@ -1,69 +1,61 @@
--- The checks in their order, against `making-refusal`.
-use mathlib.Core.Path.{_≡_, refl, sym, ap, _∙_}
-use mathlib.Core.Logic.{_⊎_, inl, inr}
-use mathlib.Core.Bool.{true, _||_}
-use mathlib.Core.List.{List}
-use Prim.Native.Nat.{ℕ, _<_, _≤_}
-use lib.Dec.{ltb}
-use lib.ListN.{length}
-use Rattle·std.specs.Options.{isSome, orOther, mapped}
-use Rattle·std.specs.declared.option.Option.{Option}
-use Rattle·std.specs.declared.option.Option.the-variants.{Some, None}
-use Rattle·std.proofs.shelf.Tests.{le-ltb, lt-ltb, or-left, or-right, true≢false}
-use Rattle·schemes.specs.Keyholders.{most-keyholders}
-use Rattle·schemes.specs.Refusals.{keyholders-from}
-use Rattle·schemes.specs.declared.refusals.SchemeRefusal.{SchemeRefusal}
-use Rattle·schemes.specs.declared.refusals.SchemeRefusal.the-variants.{ListLength, Members, Redundant}
-use Rattle·cumulative·specs.Access.{forbidden-sets}
-use Rattle·cumulative·specs.Making.{most-sets, most-forbidden, improper, redundant, first-place, forbidden-refusal, making-refusal, ProperSets}
-use Rattle·cumulative·proofs.PlaceFacts.{none-first}
+-- The checks in their order, against `making_refusal`.
+use Rattle.std.proofs.Common.{◌≡◌, ℕ, ◌<◌, ◌≤◌, true, ◌||◌, ltb, ◌⊎◌, List, length, is_some, Some, None, Option, sym, refl, ap, ◌∙◌, inl, inr}
+use Rattle.std.specs.Option.{option_or, option_map}
+use Rattle.std.proofs.lemmas.Bool.{le-ltb, lt-ltb, or_left, or_right, true≢false}
+use Rattle.schemes.specs.Keyholders.{most_keyholders}
+use Rattle.schemes.specs.Refusals.{keyholders_from}
+use Rattle.schemes.specs.declared.refusals.SchemeRefusal.{SchemeRefusal}
+use Rattle.schemes.specs.declared.refusals.SchemeRefusal.TheVariants.{ListLength, Members, Redundant}
+use Rattle.cumulative.specs.Access.{forbidden_sets}
+use Rattle.cumulative.specs.Making.{most_sets, most_forbidden, improper, redundant, first_place, forbidden_refusal, making_refusal, ProperSets}
+use Rattle.cumulative.proofs.PlaceFacts.{none_first}
 
-or-none : (o : Option SchemeRefusal) → orOther o None ≡ o
-or-none (Some x) = refl
-or-none None = refl
+or_none : (o : Option SchemeRefusal) → option_or o None ≡ o
+or_none (Some x) = refl
+or_none None = refl
 
-module _ (n : ℕ) (sets : List ℕ) (p : 1 ≤ n) (q : n ≤ most-keyholders) where
-  pub refused-length : (length sets < 1) ⊎ (most-sets < length sets) → making-refusal n sets ≡ Some ListLength
-  refused-length h = rw (le-ltb n 1 p, le-ltb most-keyholders n q, long h) refl
+module _ (n : ℕ) (sets : List ℕ) (p : 1 ≤ n) (q : n ≤ most_keyholders) where
+  pub refused_length : (length sets < 1) ⊎ (most_sets < length sets) → making_refusal n sets ≡ Some ListLength
+  refused_length h = rw (le-ltb n 1 p, le-ltb most_keyholders n q, long h) refl
     where
-      long : (length sets < 1) ⊎ (most-sets < length sets) → (ltb (length sets) 1 || ltb most-sets (length sets)) ≡ true
-      long (inl l) = or-left (ltb (length sets) 1) (ltb most-sets (length sets)) (lt-ltb (length sets) 1 l)
-      long (inr l) = or-right (ltb (length sets) 1) (ltb most-sets (length sets)) (lt-ltb most-sets (length sets) l)
+      long : (length sets < 1) ⊎ (most_sets < length sets) → (ltb (length sets) 1 || ltb most_sets (length sets)) ≡ true
+      long (inl l) = or_left (ltb (length sets) 1) (ltb most_sets (length sets)) (lt-ltb (length sets) 1 l)
+      long (inr l) = or_right (ltb (length sets) 1) (ltb most_sets (length sets)) (lt-ltb most_sets (length sets) l)
 
-  module _ (l : 1 ≤ length sets) (m : length sets ≤ most-sets) where
-    passed-length : making-refusal n sets
-        ≡ orOther (mapped Members (first-place sets (improper n sets))) (orOther (mapped Redundant (first-place sets (redundant sets))) (orOther (forbidden-refusal n sets) None))
-    passed-length = rw (le-ltb n 1 p, le-ltb most-keyholders n q, le-ltb (length sets) 1 l, le-ltb most-sets (length sets) m) refl
+  module _ (l : 1 ≤ length sets) (m : length sets ≤ most_sets) where
+    passed_length : making_refusal n sets
+        ≡ option_or (option_map Members (first_place sets (improper n sets))) (option_or (option_map Redundant (first_place sets (redundant sets))) (option_or (forbidden_refusal n sets) None))
+    passed_length = rw (le-ltb n 1 p, le-ltb most_keyholders n q, le-ltb (length sets) 1 l, le-ltb most_sets (length sets) m) refl
 
-    pub refused-members : (i : ℕ) → Some i ≡ first-place sets (improper n sets) → making-refusal n sets ≡ Some (Members i)
-    refused-members i e =
-        passed-length
-        ∙ ap (λ (o : Option ℕ). orOther (mapped Members o) (orOther (mapped Redundant (first-place sets (redundant sets))) (orOther (forbidden-refusal n sets) None))) (sym e)
+    pub refused_members : (i : ℕ) → Some i ≡ first_place sets (improper n sets) → making_refusal n sets ≡ Some (Members i)
+    refused_members i e =
+        passed_length
+        ∙ ap (λ (o : Option ℕ). option_or (option_map Members o) (option_or (option_map Redundant (first_place sets (redundant sets))) (option_or (forbidden_refusal n sets) None))) (sym e)
 
-    module _ (none : None ≡ first-place sets (improper n sets)) where
-      passed-members : making-refusal n sets ≡ orOther (mapped Redundant (first-place sets (redundant sets))) (orOther (forbidden-refusal n sets) None)
-      passed-members =
-          passed-length
-          ∙ ap (λ (o : Option ℕ). orOther (mapped Members o) (orOther (mapped Redundant (first-place sets (redundant sets))) (orOther (forbidden-refusal n sets) None))) (sym none)
+    module _ (none : None ≡ first_place sets (improper n sets)) where
+      passed_members : making_refusal n sets ≡ option_or (option_map Redundant (first_place sets (redundant sets))) (option_or (forbidden_refusal n sets) None)
+      passed_members =
+          passed_length
+          ∙ ap (λ (o : Option ℕ). option_or (option_map Members o) (option_or (option_map Redundant (first_place sets (redundant sets))) (option_or (forbidden_refusal n sets) None))) (sym none)
 
-      pub refused-redundant : (i : ℕ) → Some i ≡ first-place sets (redundant sets) → making-refusal n sets ≡ Some (Redundant i)
-      refused-redundant i e = passed-members ∙ ap (λ (o : Option ℕ). orOther (mapped Redundant o) (orOther (forbidden-refusal n sets) None)) (sym e)
+      pub refused_redundant : (i : ℕ) → Some i ≡ first_place sets (redundant sets) → making_refusal n sets ≡ Some (Redundant i)
+      refused_redundant i e = passed_members ∙ ap (λ (o : Option ℕ). option_or (option_map Redundant o) (option_or (forbidden_refusal n sets) None)) (sym e)
 
-      pub passed-all : None ≡ first-place sets (redundant sets) → making-refusal n sets ≡ forbidden-refusal n sets
-      passed-all e =
-          passed-members ∙ ap (λ (o : Option ℕ). orOther (mapped Redundant o) (orOther (forbidden-refusal n sets) None)) (sym e) ∙ or-none (forbidden-refusal n sets)
+      pub passed_all : None ≡ first_place sets (redundant sets) → making_refusal n sets ≡ forbidden_refusal n sets
+      passed_all e =
+          passed_members ∙ ap (λ (o : Option ℕ). option_or (option_map Redundant o) (option_or (forbidden_refusal n sets) None)) (sym e) ∙ or_none (forbidden_refusal n sets)
 
-      pub sets-proper : ProperSets n sets
-      sets-proper = record { least = p; most = q; some-set = l; proper = none-first (length sets) (improper n sets) (sym none) }
+      pub sets_proper : ProperSets n sets
+      sets_proper = record { least = p; most = q; some_set = l; proper = none_first (length sets) (improper n sets) (sym none) }
 
 -- ---- what is refused when the list has passed
 
-pub passed-forbidden : (n : ℕ) (sets : List ℕ) → length (forbidden-sets n sets) ≤ most-forbidden → forbidden-refusal n sets ≡ None
-passed-forbidden n sets l = rw (le-ltb most-forbidden (length (forbidden-sets n sets)) l) refl
+pub passed_forbidden : (n : ℕ) (sets : List ℕ) → length (forbidden_sets n sets) ≤ most_forbidden → forbidden_refusal n sets ≡ None
+passed_forbidden n sets l = rw (le-ltb most_forbidden (length (forbidden_sets n sets)) l) refl
 
 -- all of t is not refused
-pub table-made : (t : ℕ) (why : SchemeRefusal) → 1 ≤ t → t ≤ most-keyholders → Some why ≡ keyholders-from 1 t → ⊥
-table-made t why p q e = true≢false (ap isSome (e ∙ none))
+pub table_made : (t : ℕ) (why : SchemeRefusal) → 1 ≤ t → t ≤ most_keyholders → Some why ≡ keyholders_from 1 t → ⊥
+table_made t why p q e = true≢false (ap is_some (e ∙ none))
   where
-    none : keyholders-from 1 t ≡ None
-    none = rw (le-ltb t 1 p, le-ltb most-keyholders t q) refl
+    none : keyholders_from 1 t ≡ None
+    none = rw (le-ltb t 1 p, le-ltb most_keyholders t q) refl

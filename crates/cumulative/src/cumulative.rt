@@ -1,32 +1,19 @@
 // The scheme of sets, made from the minimal sets of keyholders who may open together.
-ghost use mathlib.Core.Path.{_≡_};
-ghost use mathlib.Core.Bool.{false};
-ghost use mathlib.Core.List.{[], _∷_};
-ghost use Prim.Native.Nat.{ℕ, suc, _≤_, _<_};
-ghost use lib.ListN.{getD, length, take};
-ghost use Rattle·std.specs.Of.Vec.{vec-items};
-ghost use Rattle·std.specs.Vec.{made, refused};
-ghost use Rattle·schemes.specs.Keyholders.{most-keyholders};
-ghost use Rattle·schemes.specs.Refusals.{refusal-in};
-ghost use Rattle·schemes.specs.declared.refusals.SchemeRefusal.the-variants.{Memory};
-ghost use Rattle·cumulative·specs.Access.{numbers, forbidden-sets, IsForbiddenList};
-ghost use Rattle·cumulative·specs.Cumulative.{cumulative, LevelsOfSets, Opens-to-qualified};
-ghost use Rattle·cumulative·specs.Making.{improper, making-refusal, By-rules-or-no-memory};
-ghost use Rattle·cumulative·specs.Records.{noted, lacks, in-record, record-numbers};
+ghost use Rattle.std.specs.Prelude.{◌≡◌, ℕ, suc, ◌<◌, ◌≤◌, false, [], ◌∷◌, length, take, IfOk, IfErr, OnErr, OnOk, slice_index};
+ghost use Rattle.schemes.specs.Keyholders.{most_keyholders};
+ghost use Rattle.schemes.specs.Refusals.{refusal_in};
+ghost use Rattle.schemes.specs.declared.refusals.SchemeRefusal.TheVariants.{Memory};
+ghost use Rattle.cumulative.specs.Access.{numbers, forbidden_sets, IsForbiddenList};
+ghost use Rattle.cumulative.specs.Cumulative.{cumulative, LevelsOfSets, OpensToQualified};
+ghost use Rattle.cumulative.specs.Making.{improper, making_refusal, ByRulesOrNoMemory};
+ghost use Rattle.cumulative.specs.Records.{noted, lacks, in_record, record_numbers};
+ghost use Rattle.std.proofs.Common.{rules, arith};
+
 use crate::checks::check_list;
-use crate::findings::MOST_FORBIDDEN;
-use crate::findings::find_forbidden;
-use crate::records::KeyholderRecord;
-use crate::records::RECORDS;
-use crate::records::empty_record;
-use crate::records::note_absent;
+use crate::findings::{MOST_FORBIDDEN, find_forbidden};
+use crate::records::{KeyholderRecord, RECORDS, empty_record, note_absent};
 use crate::sets::is_qualified;
-use schemes::AllOf;
-use schemes::AllOfScheme;
-use schemes::Colour;
-use schemes::KeyholderSet;
-use schemes::Scheme;
-use schemes::SchemeRefusal;
+use schemes::{AllOf, Colour, KeyholderSet, Scheme, SchemeRefusal};
 use std::alloc::Global;
 
 // The scheme in which the sets that contain one of the minimal sets are qualified. Its table comes from that of all of t,
@@ -39,20 +26,20 @@ pub struct Cumulative {
     records: [KeyholderRecord; RECORDS],
     table: AllOf,
     ghost least: { 1 ≤ n },
-    ghost most: { n ≤ most-keyholders },
-    ghost listed: { 1 ≤ length (numbers (vec-items minimal)) },
-    ghost proper: { (i : ℕ) → i < length (numbers (vec-items minimal)) → improper n (numbers (vec-items minimal)) i ≡ false },
-    ghost found: { numbers (take (table .n) forbidden) ≡ forbidden-sets n (numbers (vec-items minimal)) },
-    ghost rows: { length (forbidden-sets n (numbers (vec-items minimal))) ≡ table .n },
-    ghost kept: { (k q : ℕ) → k < n → noted (getD (record-numbers records) k 0) q ≡ lacks (forbidden-sets n (numbers (vec-items minimal))) (suc k) q },
+    ghost most: { n ≤ most_keyholders },
+    ghost listed: { 1 ≤ length (numbers minimal.items) },
+    ghost proper: { (i : ℕ) → i < length (numbers minimal.items) → improper n (numbers minimal.items) i ≡ false },
+    ghost found: { numbers (take table.n forbidden) ≡ forbidden_sets n (numbers minimal.items) },
+    ghost rows: { length (forbidden_sets n (numbers minimal.items)) ≡ table.n },
+    ghost kept: { (k q : ℕ) → k < n → noted (slice_index (record_numbers records) k) q ≡ lacks (forbidden_sets n (numbers minimal.items)) (suc k) q },
 }
 
 impl Cumulative {
     // The scheme of one keyholder, who opens alone. Only want of memory is refused.
     pub fn new(heap: Global) -> Result<Cumulative, SchemeRefusal>
-        ensures refusal { λ r. ⌜ refused r (λ why. why ≡ Memory) ⌝ }
-        ensures made { λ r. ⌜ made r (λ s. (s .n ≡ 1) × (numbers (vec-items (s .minimal)) ≡ 1 ∷ [])) ⌝ }
-        ensures levels { λ r. ⌜ made r (λ _. LevelsOfSets 1 (1 ∷ [])) ⌝ }
+        ensures refusal { IfErr result (λ why. why ≡ Memory) }
+        ensures made { IfOk result (λ s. (s.n ≡ 1) × (numbers s.minimal.items ≡ 1 ∷ [])) }
+        ensures levels { OnOk result (LevelsOfSets 1 (1 ∷ [])) }
     {
         let Ok(minimal) = Vec::from_slice(heap, &[KeyholderSet::everyone(1)]) else {
             return Err(SchemeRefusal::Memory);
@@ -73,11 +60,11 @@ impl Cumulative {
 
     // Makes the scheme of n keyholders and these minimal sets in the place of this one. Any refusal leaves it as it was.
     pub fn make(&mut self, heap: Global, n: u8, sets: &[KeyholderSet]) -> Result<(), SchemeRefusal>
-        ensures refusal { λ r. ⌜ By-rules-or-no-memory (refusal-in r) (making-refusal n (numbers (now (sets .entry)))) ⌝ }
-        ensures unchanged { λ r. ⌜ refused r (λ _. now (self .exit) ≡ now (self .entry)) ⌝ }
-        ensures made { λ r. ⌜ made r (λ _. (now (self .exit) .n ≡ n) × (vec-items (now (self .exit) .minimal) ≡ now (sets .entry))) ⌝ }
-        ensures access { λ r. ⌜ made r (λ _. Opens-to-qualified n (numbers (now (sets .entry)))) ⌝ }
-        ensures levels { λ r. ⌜ made r (λ _. LevelsOfSets n (numbers (now (sets .entry)))) ⌝ }
+        ensures refusal { ByRulesOrNoMemory (refusal_in result) (making_refusal n (numbers sets.now)) }
+        ensures unchanged { OnErr result (self.new ≡ self.old) }
+        ensures made { OnOk result ((self.new.n ≡ n) × (self.new.minimal.items ≡ sets.now)) }
+        ensures access { OnOk result (OpensToQualified n (numbers sets.now)) }
+        ensures levels { OnOk result (LevelsOfSets n (numbers sets.now)) }
     {
         check_list(n, sets)?;
         let Some(found) = find_forbidden(n, sets) else {
@@ -101,15 +88,15 @@ impl Cumulative {
 
     // The minimal sets, in the order of the list.
     pub fn minimal_sets(&self) -> &[KeyholderSet]
-        ensures { λ r. ⌜ now r ≡ vec-items (now (self .entry) .minimal) ⌝ }
+        ensures { result.now ≡ self.now.minimal.items }
     {
         &self.minimal
     }
 
     // The maximal forbidden sets, in rising order.
     pub fn forbidden_sets(&self) -> &[KeyholderSet]
-        ensures sets { λ r. ⌜ numbers (now r) ≡ forbidden-sets (now (self .entry) .n) (numbers (vec-items (now (self .entry) .minimal))) ⌝ }
-        ensures exactly { λ r. ⌜ IsForbiddenList (now (self .entry) .n) (numbers (vec-items (now (self .entry) .minimal))) (numbers (now r)) ⌝ }
+        ensures sets { numbers result.now ≡ forbidden_sets self.now.n (numbers self.now.minimal.items) }
+        ensures exactly { IsForbiddenList self.now.n (numbers self.now.minimal.items) (numbers result.now) }
     {
         &self.forbidden[0..self.table.keyholders() as usize]
     }
@@ -117,7 +104,7 @@ impl Cumulative {
     // The record of a keyholder: the numbers of the maximal forbidden sets that he is not in. It is empty for anybody who is
     // not one of keyholders 1 to n.
     pub fn record(&self, keyholder: u8) -> KeyholderRecord
-        ensures { λ r. ⌜ ((q : ℕ) → noted (r .rows .bits) q ≡ in-record (now (self .entry) .n) (forbidden-sets (now (self .entry) .n) (numbers (vec-items (now (self .entry) .minimal)))) keyholder q) ⌝ }
+        ensures { (q : ℕ) → noted result.rows.bits q ≡ in_record self.now.n (forbidden_sets self.now.n (numbers self.now.minimal.items)) keyholder q }
     {
         if keyholder < 1 || keyholder > self.n {
             return empty_record();
@@ -126,8 +113,12 @@ impl Cumulative {
     }
 }
 
-pub impl Scheme for Cumulative as CumulativeScheme {
-    ghost means = { λ s. cumulative (s .n) (numbers (vec-items (s .minimal))) };
+impl Scheme for Cumulative {
+    ghost means = { λ s. cumulative s.n (numbers s.minimal.items) };
+
+    ghost in_range = { first_of (Prim.search rules, Prim.grind (arith, Self.row.coded.inj)) };
+
+    ghost lawful = { first_of (Prim.search rules, Prim.grind (arith, Self.row.coded.inj)) };
 
     fn keyholders(&self) -> u8 {
         self.n

@@ -1,16 +1,11 @@
 // The search for the maximal forbidden sets, in which every keyholder notes those that he is not in.
-ghost use mathlib.Core.Path.{_≡_};
-ghost use Prim.Native.Nat.{_≤_, _<_};
-ghost use lib.ListN.{length, take};
-ghost use Rattle·std.specs.Options.{Cases};
-ghost use Rattle·schemes.specs.Keyholders.{most-keyholders};
-ghost use Rattle·cumulative·specs.Access.{numbers, forbidden-sets};
-ghost use Rattle·cumulative·specs.Making.{most-forbidden};
-ghost use Rattle·cumulative·specs.Records.{record-numbers, Kept};
-use crate::records::KeyholderRecord;
-use crate::records::RECORDS;
-use crate::records::empty_record;
-use crate::records::note_absent;
+ghost use Rattle.std.specs.Prelude.{◌≡◌, ◌<◌, ◌≤◌, length, take, IfSome, MatchOption};
+ghost use Rattle.schemes.specs.Keyholders.{most_keyholders};
+ghost use Rattle.cumulative.specs.Access.{numbers, forbidden_sets};
+ghost use Rattle.cumulative.specs.Making.{most_forbidden};
+ghost use Rattle.cumulative.specs.Records.{record_numbers, Kept};
+
+use crate::records::{KeyholderRecord, RECORDS, empty_record, note_absent};
 use crate::sets::is_maximal;
 use schemes::KeyholderSet;
 
@@ -27,10 +22,10 @@ pub struct Findings {
 
 // The maximal forbidden sets of keyholders 1 to n in rising order, with the records; none where there are more than 8.
 pub fn find_forbidden(n: u8, minimal: &[KeyholderSet]) -> Option<Findings>
-    requires { ⌜ n ≤ most-keyholders ⌝ }
-    ensures count { λ r. ⌜ Cases r (most-forbidden < length (forbidden-sets n (numbers (now (minimal .entry))))) (λ found. (length (forbidden-sets n (numbers (now (minimal .entry)))) ≡ found .count) × (found .count ≤ most-forbidden)) ⌝ }
-    ensures sets { λ r. ⌜ Cases r (Unit {0}) (λ found. numbers (take (found .count) (found .sets)) ≡ forbidden-sets n (numbers (now (minimal .entry)))) ⌝ }
-    ensures records { λ r. ⌜ Cases r (Unit {0}) (λ found. Kept n (forbidden-sets n (numbers (now (minimal .entry)))) (record-numbers (found .records))) ⌝ }
+    requires { n ≤ most_keyholders }
+    ensures count { MatchOption result (most_forbidden < length (forbidden_sets n (numbers minimal.now))) (λ found. (length (forbidden_sets n (numbers minimal.now)) ≡ found.count) × (found.count ≤ most_forbidden)) }
+    ensures sets { IfSome result (λ found. numbers (take found.count found.sets) ≡ forbidden_sets n (numbers minimal.now)) }
+    ensures records { IfSome result (λ found. Kept n (forbidden_sets n (numbers minimal.now)) (record_numbers found.records)) }
 {
     let mut found = Findings {
         count: 0,

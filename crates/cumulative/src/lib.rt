@@ -8,7 +8,6 @@ mod records;
 mod sets;
 
 pub use cumulative::Cumulative;
-pub use cumulative::CumulativeScheme;
 pub use records::KeyholderRecord;
 
 #[cfg(test)]

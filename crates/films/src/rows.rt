@@ -1,12 +1,8 @@
 // The rows of one film, out of the strips of all films. Rests on nothing.
-ghost use mathlib.Core.Path.{_≡_};
-ghost use mathlib.Core.Bool.{true, false};
-ghost use Rattle·std.specs.Of.Vec.{vec-items};
-ghost use Rattle·std.specs.Options.{Cases};
-ghost use Rattle·std.specs.Vec.{made};
-ghost use Rattle·films·specs.FilmRows.{has-film, film-of};
-use std::alloc::AllocError;
-use std::alloc::Global;
+ghost use Rattle.std.specs.Prelude.{◌≡◌, true, false, IfOk, MatchOption};
+ghost use Rattle.films.specs.FilmRows.{has_film, film_of};
+
+use std::alloc::{AllocError, Global};
 
 // The rows of a keyholder's film, one after another. The strips are those of `height` rows; each row has the strips of
 // keyholders 1 to n, of `size` bytes, one after another. None where there are fewer strips, or no such keyholder.
@@ -18,7 +14,7 @@ pub fn film_rows(
     height: u16,
     keyholder: u8,
 ) -> Result<Option<Vec<u8>>, AllocError>
-    ensures { λ r. ⌜ made r (λ film. Cases film (has-film n size (now (strips .entry)) keyholder height ≡ false) (λ rows. (has-film n size (now (strips .entry)) keyholder height ≡ true) × (vec-items rows ≡ film-of n size (now (strips .entry)) keyholder height))) ⌝ }
+    ensures { IfOk result (λ film. MatchOption film (has_film n size strips.now keyholder height ≡ false) (λ rows. (has_film n size strips.now keyholder height ≡ true) × (rows.items ≡ film_of n size strips.now keyholder height))) }
 {
     let size = size as usize;
     let row = n as usize * size;

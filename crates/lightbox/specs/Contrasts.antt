@@ -1,17 +1,14 @@
 -- What a qualified set sees of a pixel: light black squares over a white one, dark over a black one, out of m.
-use mathlib.Core.Bool.{cond}
-use Prim.Native.Nat.{ℕ, _<_, _≤_}
-use Rattle·std.specs.declared.result.Result.{Result}
-use Rattle·std.specs.declared.result.Result.the-variants.{Ok, Err}
-use Rattle·schemes.specs.Meaning.{Meaning, light, dark}
-use Rattle·lightbox·specs.declared.refusals.ContrastRefusal.{ContrastRefusal}
-use Rattle·lightbox·specs.declared.refusals.ContrastRefusal.the-variants.{NotQualified}
+use Rattle.std.specs.Prelude.{ℕ, ◌<◌, ◌≤◌, cond, Ok, Err, Result}
+use Rattle.schemes.specs.Meaning.{Meaning, light, dark}
+use Rattle.lightbox.specs.declared.refusals.ContrastRefusal.{ContrastRefusal}
+use Rattle.lightbox.specs.declared.refusals.ContrastRefusal.TheVariants.{NotQualified}
 
 -- Light, dark and m of a qualified set.
-abbrev pub contrast-of : Meaning → (set : ℕ) → Result (ℕ × ℕ × ℕ) ContrastRefusal
-contrast-of s set = cond (s .qualified set) (Ok (light s set, dark s set, s .m)) (Err NotQualified)
+abbrev pub contrast_of : Meaning → (set : ℕ) → Result (ℕ × ℕ × ℕ) ContrastRefusal
+contrast_of s set = cond (s.qualified set) (Ok (light s set, dark s set, s.m)) (Err NotQualified)
 
 -- A black pixel is darker than a white one, and has no more black squares than squares.
 pub record Distinct (seen : ℕ × ℕ × ℕ) : Type 0 where
-  pub darker : seen .0 < seen .1
-  pub at-most : seen .1 ≤ seen .2
+  pub darker : seen.0 < seen.1
+  pub at_most : seen.1 ≤ seen.2

@@ -1,19 +1,20 @@
 // How many squares of a pixel are black. Rests on where the squares of a strip lie.
-ghost use mathlib.Core.Path.{_≡_};
-ghost use Rattle·schemes.specs.PackedRows.{bit-at};
-ghost use Rattle·schemes.specs.Strips.{square-bit, blacks-over};
+ghost use Rattle.std.specs.Prelude.{◌≡◌};
+ghost use Rattle.schemes.specs.PackedRows.{bit_at};
+ghost use Rattle.schemes.specs.Strips.{square_bit, blacks_over};
+
 use schemes::bit_at;
 
 // The bit of a square of a pixel in a strip, for so many columns.
 fn square_bit(columns: u8, pixel: u32, square: u8) -> usize
-    ensures { λ r. ⌜ r ≡ square-bit columns pixel square ⌝ }
+    ensures { result ≡ square_bit columns pixel square }
 {
     pixel as usize * columns as usize + square as usize
 }
 
 // How many of a pixel's squares are black on the glass, for so many columns. Squares past its end are white.
 pub fn count_block(glass: &[u8], columns: u8, pixel: u32) -> u8
-    ensures { λ r. ⌜ r ≡ blacks-over columns (bit-at (now (glass .entry))) pixel ⌝ }
+    ensures { result ≡ blacks_over columns (bit_at glass.now) pixel }
 {
     let mut total = 0;
     for square in 0..columns {

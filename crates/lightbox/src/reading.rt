@@ -1,25 +1,16 @@
 // What a glass shows, read as a row of pixels. Rests on the counts of blocks and the contrast of a set.
-ghost use mathlib.Core.Path.{_≡_};
-ghost use Prim.Native.Nat.{_<_};
-ghost use lib.ListN.{length};
-ghost use Rattle·std.specs.Vec.{made};
-ghost use Rattle·std.specs.declared.result.Result.the-variants.{Ok};
-ghost use Rattle·schemes.specs.PackedRows.{bytes-for};
-ghost use Rattle·schemes.specs.Refusals.{refusal-in};
-ghost use Rattle·lightbox·specs.Contrasts.{contrast-of, Distinct};
-ghost use Rattle·lightbox·specs.Reading.{early-refusal, Counted, Reading, OneReading, ReadsWhatShows};
+ghost use Rattle.std.specs.Prelude.{◌≡◌, ◌<◌, length, IfOk, Ok, OnOk};
+ghost use Rattle.schemes.specs.PackedRows.{bytes_for};
+ghost use Rattle.schemes.specs.Refusals.{refusal_in};
+ghost use Rattle.lightbox.specs.Contrasts.{contrast_of, Distinct};
+ghost use Rattle.lightbox.specs.Reading.{early_refusal, Counted, Reading, OneReading, ReadsWhatShows};
+
 use crate::ReadRefusal;
-use crate::ReadRefusalFromContrast;
 use crate::contrasts::contrast;
 use crate::counting::count_block;
-use schemes::KeyholderSet;
-use schemes::MOST_PIXELS;
-use schemes::MOST_SQUARES;
-use schemes::Scheme;
-use schemes::bytes_for;
-use schemes::set_bit;
-use schemes::strip_size;
-use schemes::strip_squares;
+use schemes::{
+    KeyholderSet, MOST_PIXELS, MOST_SQUARES, Scheme, bytes_for, set_bit, strip_size, strip_squares,
+};
 
 // Light, dark and m of a reading that is not refused early, by the lengths of the glass and the output.
 fn admit<S: Scheme>(
@@ -29,10 +20,10 @@ fn admit<S: Scheme>(
     glass_bytes: usize,
     out_bytes: usize,
 ) -> Result<(u8, u8, u8), ReadRefusal>
-    ensures refusal { λ r. ⌜ refusal-in r ≡ early-refusal (means (now (scheme .entry))) (set .bits) w «glass_bytes» «out_bytes» ⌝ }
-    ensures contrast { λ r. ⌜ made r (λ seen. contrast-of (means (now (scheme .entry))) (set .bits) ≡ Ok seen) ⌝ }
-    ensures levels { λ r. ⌜ made r Distinct ⌝ }
-    ensures long { λ r. ⌜ made r (λ _. «out_bytes» ≡ bytes-for w) ⌝ }
+    ensures refusal { refusal_in result ≡ early_refusal (means scheme.now) set.bits w glass_bytes out_bytes }
+    ensures contrast { IfOk result (λ seen. contrast_of (means scheme.now) set.bits ≡ Ok seen) }
+    ensures levels { IfOk result Distinct }
+    ensures long { OnOk result (out_bytes ≡ bytes_for w) }
 {
     if w < 1 || w > MOST_PIXELS {
         return Err(ReadRefusal::Width);
@@ -60,9 +51,9 @@ fn count_row(
     glass: &[u8],
     out: &mut [u8],
 ) -> Result<(), ReadRefusal>
-    requires levels { ⌜ light < dark ⌝ }
-    requires long { ⌜ length (now out) ≡ bytes-for w ⌝ }
-    ensures { λ r. ⌜ Counted m light dark w (now (glass .entry)) r (now (out .exit)) ⌝ }
+    requires levels { light < dark }
+    requires long { length out.old ≡ bytes_for w }
+    ensures { Counted m light dark w glass.now result out.new }
 {
     out.fill(0); // all white, and the spare bits 0
     for c in 0..w {
@@ -89,9 +80,9 @@ pub fn read<S: Scheme>(
     glass: &[u8],
     out: &mut [u8],
 ) -> Result<(), ReadRefusal>
-    ensures reads { λ r. ⌜ Reading (means (now (scheme .entry))) (set .bits) w (now (glass .entry)) (now (out .entry)) r (now (out .exit)) ⌝ }
-    ensures determined { λ _. ⌜ OneReading ⌝ }
-    ensures restores { λ _. ⌜ ReadsWhatShows ⌝ }
+    ensures reads { Reading (means scheme.now) set.bits w glass.now out.old result out.new }
+    ensures determined { OneReading }
+    ensures restores { ReadsWhatShows }
 {
     let (light, dark, m) = admit(scheme, set, w, glass.len(), out.len())?;
     count_row(light, dark, m, w, glass, out)

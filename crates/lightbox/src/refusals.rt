@@ -1,7 +1,8 @@
 // Why the light box refuses. Each refusal has a number.
-ghost use mathlib.Core.Path.{_≡_};
-ghost use Rattle·lightbox·specs.declared.refusals.ReadRefusal.the-variants.{Contrast};
-ghost use Rattle·lightbox·specs.Refusals.{lay-number, contrast-number, read-number, read-place};
+ghost use Rattle.std.specs.Prelude.{◌≡◌};
+ghost use Rattle.lightbox.specs.declared.refusals.ReadRefusal.TheVariants.{Contrast};
+ghost use Rattle.lightbox.specs.Refusals.{lay_number, contrast_number, read_number, read_place};
+
 use std::fmt;
 
 // Why a strip is not laid.
@@ -38,7 +39,7 @@ pub enum ReadRefusal {
 impl LayRefusal {
     // The refusal's number.
     pub fn number(self) -> u8
-        ensures { λ r. ⌜ r ≡ lay-number self ⌝ }
+        ensures { result ≡ lay_number self }
     {
         match self {
             LayRefusal::Lengths => 28,
@@ -49,7 +50,7 @@ impl LayRefusal {
 impl ContrastRefusal {
     // The refusal's number.
     pub fn number(self) -> u8
-        ensures { λ r. ⌜ r ≡ contrast-number self ⌝ }
+        ensures { result ≡ contrast_number self }
     {
         match self {
             ContrastRefusal::NotQualified => 29,
@@ -60,7 +61,7 @@ impl ContrastRefusal {
 impl ReadRefusal {
     // The refusal's number.
     pub fn number(self) -> u8
-        ensures { λ r. ⌜ r ≡ read-number self ⌝ }
+        ensures { result ≡ read_number self }
     {
         match self {
             ReadRefusal::Width => 17,
@@ -74,7 +75,7 @@ impl ReadRefusal {
 
     // The pixel that the refusal is about, from 0, where it is about one.
     pub fn place(self) -> Option<u32>
-        ensures { λ r. ⌜ r ≡ read-place self ⌝ }
+        ensures { result ≡ read_place self }
     {
         match self {
             ReadRefusal::NeitherLevel(pixel) => Some(pixel),
@@ -83,15 +84,15 @@ impl ReadRefusal {
     }
 }
 
-pub impl From<ContrastRefusal> for ReadRefusal as ReadRefusalFromContrast {
-    ghost converts = { λ why r. r ≡ Contrast why };
+impl From<ContrastRefusal> for ReadRefusal {
+    ghost from_gives = { λ why r. r ≡ Contrast why };
 
     fn from(why: ContrastRefusal) -> ReadRefusal {
         ReadRefusal::Contrast(why)
     }
 }
 
-pub impl fmt::Display for LayRefusal as LayRefusalDisplay {
+impl fmt::Display for LayRefusal {
     fn fmt<W: fmt::Write>(&self, f: &mut fmt::Formatter<W>) -> fmt::Result {
         let number = self.number();
         match *self {
@@ -102,7 +103,7 @@ pub impl fmt::Display for LayRefusal as LayRefusalDisplay {
     }
 }
 
-pub impl fmt::Display for ContrastRefusal as ContrastRefusalDisplay {
+impl fmt::Display for ContrastRefusal {
     fn fmt<W: fmt::Write>(&self, f: &mut fmt::Formatter<W>) -> fmt::Result {
         let number = self.number();
         match *self {
@@ -113,7 +114,7 @@ pub impl fmt::Display for ContrastRefusal as ContrastRefusalDisplay {
     }
 }
 
-pub impl fmt::Display for ReadRefusal as ReadRefusalDisplay {
+impl fmt::Display for ReadRefusal {
     fn fmt<W: fmt::Write>(&self, f: &mut fmt::Formatter<W>) -> fmt::Result {
         let number = self.number();
         match *self {

@@ -1,12 +1,7 @@
 // The light box at work: worked rows, and each refusal with what it leaves.
 use super::*;
-use schemes::AllOf;
-use schemes::AllOfScheme;
-use schemes::KeyholderSet;
-use schemes::SchemeRefusalDebug;
-use schemes::TwoOf;
-use schemes::TwoOfScheme;
-use std::test::*;
+use schemes::{AllOf, KeyholderSet, TwoOf};
+use std::test::Fail;
 
 // Readings with two of 3: a set, a width and a glass; then the number (0 for none) and the place of the refusal, and the
 // output of one byte, which is 255 before. The set 3 of two members has the levels 1 and 2, the set 7 of all has 1 and 3.
@@ -26,7 +21,7 @@ const READINGS: [(u8, u32, [u8; 2], u8, Option<u32>, u8); 8] = [
 ];
 
 #[test]
-fn reads() -> Result<(), Fail> {
+fn reads(rt: HostRuntime) -> Result<(), Fail> {
     for (set, w, glass, number, place, row) in READINGS {
         let mut out = [255];
         let answer = read(
@@ -40,30 +35,31 @@ fn reads() -> Result<(), Fail> {
             Ok(()) => (0, None),
             Err(why) => (why.number(), why.place()),
         };
-        check_eq((said, at, out[0]), (number, place, row))?;
+        assert_eq!(rt; (said, at, out[0]), (number, place, row));
     }
     Ok(())
 }
 
 // The strips 1001 and 1010 of a white and a black pixel, all of 2, give the stack 1011. A strip of another length leaves it.
 #[test]
-fn lays_and_reads() -> Result<(), Fail> {
+fn lays_and_reads(rt: HostRuntime) -> Result<(), Fail> {
     let scheme = AllOf::new(2)?;
     let both = KeyholderSet::from_bits(3);
     let mut glass = [0];
     lay(&mut glass, &[0b1001_0000])?;
     lay(&mut glass, &[0b1010_0000])?;
-    check_eq(lay(&mut glass, &[255, 255]), Err(LayRefusal::Lengths))?;
-    check_eq(glass[0], 0b1011_0000)?;
+    assert_eq!(rt; lay(&mut glass, &[255, 255]), Err(LayRefusal::Lengths));
+    assert_eq!(rt; glass[0], 0b1011_0000);
     let mut out = [255];
     read(&scheme, both, 2, &glass, &mut out)?;
-    check_eq(out[0], 0b0100_0000)?;
-    check_eq(contrast(&scheme, both), Ok((1, 2, 2)))
+    assert_eq!(rt; out[0], 0b0100_0000);
+    assert_eq!(rt; contrast(&scheme, both), Ok((1, 2, 2)));
+    Ok(())
 }
 
 // All of 8 has 128 squares for each pixel: 256 pixels are taken, 257 are not. Refusals of sizes leave the output.
 #[test]
-fn refuses_sizes() -> Result<(), Fail> {
+fn refuses_sizes(rt: HostRuntime) -> Result<(), Fail> {
     let scheme = AllOf::new(8)?;
     let everyone = KeyholderSet::from_bits(255);
     for (w, why) in [
@@ -72,18 +68,19 @@ fn refuses_sizes() -> Result<(), Fail> {
         (1, ReadRefusal::OutputLength),
     ] {
         let mut out = [255, 255];
-        check_eq(read(&scheme, everyone, w, &[0; 16], &mut out), Err(why))?;
-        check_eq(out, [255, 255])?;
+        assert_eq!(rt; read(&scheme, everyone, w, &[0; 16], &mut out), Err(why));
+        assert_eq!(rt; out, [255, 255]);
     }
     Ok(())
 }
 
 #[test]
-fn says_why(rt: LibcRuntime) -> Result<(), Fail> {
+fn says_why(rt: HostRuntime) -> Result<(), Fail> {
     let why = ReadRefusal::NeitherLevel(5);
-    let said = format!(rt.alloc(), "{why}")?;
-    check_eq(
+    let said = format!(in rt.alloc(); "{why}")?;
+    assert_eq!(rt;
         said.as_str(),
-        "refused 32 at 5: the count of black squares is neither light nor dark",
-    )
+        "refused 32 at 5: the count of black squares is neither light nor dark"
+    );
+    Ok(())
 }

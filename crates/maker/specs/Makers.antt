@@ -1,39 +1,34 @@
 -- A maker of the code as the definition of a run has it.
-use mathlib.Core.Path.{_≡_}
-use mathlib.Core.List.{List}
-use Prim.Native.Nat.{ℕ}
-use Rattle·std.specs.declared.result.Result.{Result}
-use Rattle·std.specs.declared.result.Result.the-variants.{Ok, Err}
-use Rattle·std.specs.declared.option.Option.the-variants.{None}
-use Rattle·schemes.specs.Meaning.{Meaning}
-use Rattle·maker·specs.declared.maker.Maker.{Maker}
-use Rattle·maker·specs.declared.calls.Closed.{Closed}
-use Rattle·runs.specs.Runs.{State, Answer, closed, number, refused, Call, Outcome, outcome, row-outcome}
+use Rattle.std.specs.Prelude.{◌≡◌, ℕ, List, None, Ok, Err, Result}
+use Rattle.schemes.specs.Meaning.{Meaning}
+use Rattle.maker.specs.declared.maker.Maker.{Maker}
+use Rattle.maker.specs.declared.calls.Closed.{Closed}
+use Rattle.runs.specs.Runs.{State, Answer, closed, number, refused, Call, Outcome, outcome, row_outcome}
 
 -- Of a scheme its meaning counts, and of a tape the bytes that wait.
 module _ {S T : Type 0} (means : S → Meaning) (bytes : T → List ℕ) where
-  abbrev pub state-of : Maker S T → State
-  state-of k = record { made = k .made; spoiled = k .spoiled; supply = k .supply; tape = bytes (k .tape) }
+  abbrev pub state_of : Maker S T → State
+  state_of k = record { made = k.made; spoiled = k.spoiled; supply = k.supply; tape = bytes k.tape }
 
   -- what comes of a call of this maker
-  abbrev pub outcome-of : Maker S T → Call → Outcome
-  outcome-of k call = outcome (means (k .scheme)) (k .width) (k .height) (state-of k) call
+  abbrev pub outcome_of : Maker S T → Call → Outcome
+  outcome_of k call = outcome (means k.scheme) k.width k.height (state_of k) call
 
   -- and of a row that is not refused before a byte is taken
-  abbrev pub row-written : Maker S T → (secret out work : List ℕ) → Outcome
-  row-written k secret out work = row-outcome None (means (k .scheme)) (k .width) (state-of k) secret out work
+  abbrev pub row_written : Maker S T → (secret out work : List ℕ) → Outcome
+  row_written k secret out work = row_outcome None (means k.scheme) k.width (state_of k) secret out work
 
   -- a call takes the maker to the state that the outcome says, with its scheme and its page
-  pub record Leaves (k k′ : Maker S T) (o : Outcome) : Type 0 where
-    pub left : state-of k′ ≡ o .left
-    pub scheme : k′ .scheme ≡ k .scheme
-    pub width : k′ .width ≡ k .width
-    pub height : k′ .height ≡ k .height
+  pub record Leaves (k k' : Maker S T) (o : Outcome) : Type 0 where
+    pub left : state_of k' ≡ o.left
+    pub scheme : k'.scheme ≡ k.scheme
+    pub width : k'.width ≡ k.width
+    pub height : k'.height ≡ k.height
 
 -- A result is an answer: a number, or a refusal by its number.
 abbrev pub Answers : {E : Type 0} → (E → ℕ) → Result ℕ E → Answer → Type 0
-Answers number-of (Ok n) a = a ≡ number n
-Answers number-of (Err why) a = a ≡ refused (number-of why)
+Answers number_of_lem (Ok n) a = a ≡ number n
+Answers number_of_lem (Err why) a = a ≡ refused (number_of_lem why)
 
-abbrev pub answer-of : Closed → Answer
-answer-of c = closed (c .made) (c .spoiled) (c .taken) (c .«is_full»)
+abbrev pub answer_of : Closed → Answer
+answer_of c = closed c.made c.spoiled c.taken c.is_full

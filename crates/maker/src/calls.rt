@@ -1,25 +1,17 @@
 // The calls of a run: making a maker, row, spoil, tally and close. What each answers and leaves is `outcome` of
 // specs/Runs in crate runs.
-ghost use mathlib.Core.Path.{_≡_};
-ghost use lib.ListN.{length};
-ghost use Rattle·std.specs.Options.{Cases, mapped};
-ghost use Rattle·runs.specs.Refusals.{row-number, spoil-number};
-ghost use Rattle·runs.specs.Runs.{fresh, row as row-call, spoil as spoil-call, tally as tally-call, tallied, close-answer, refusal-of, page-refusals, row-refusal};
-ghost use Rattle·runs.specs.Law.{Tape-of, Conceals, Shows};
-ghost use Rattle·maker·specs.Makers.{state-of, outcome-of, Leaves, Answers, row-written, answer-of};
-ghost use Rattle·maker·specs.Filling.{PageFits, RowFits};
-use crate::Maker;
-use crate::RowRefusal;
-use crate::SpoilRefusal;
-use crate::films::SecretRow;
-use crate::films::write_films;
+ghost use Rattle.std.specs.Prelude.{◌≡◌, length, IfNone};
+ghost use Rattle.std.specs.Option.{option_map};
+ghost use Rattle.runs.specs.Refusals.{row_number, spoil_number};
+ghost use Rattle.runs.specs.Runs.{fresh, row as row-call, spoil as spoil-call, tally as tally-call, tallied, close_answer, refusal_of, page_refusals, row_refusal};
+ghost use Rattle.runs.specs.Law.{TapeOf, Conceals, Shows};
+ghost use Rattle.maker.specs.Makers.{state_of, outcome_of, Leaves, Answers, row_written, answer_of};
+ghost use Rattle.maker.specs.Filling.{PageFits, RowFits};
+
+use crate::films::{SecretRow, write_films};
 use crate::work_strip::WorkStrip;
-use schemes::MOST_PIXELS;
-use schemes::MOST_SQUARES;
-use schemes::Scheme;
-use schemes::bytes_for;
-use schemes::strip_size;
-use schemes::strip_squares;
+use crate::{Maker, RowRefusal, SpoilRefusal};
+use schemes::{MOST_PIXELS, MOST_SQUARES, Scheme, bytes_for, strip_size, strip_squares};
 use tapes::Tape;
 
 // A page has at most so many rows.
@@ -39,11 +31,11 @@ impl<S: Scheme + Drop, T: Tape + Drop> Maker<S, T> {
     // page that is too small or too large is refused by each row.
     // Every run of such a maker keeps the law of specs/Law in crate runs: `conceals` and `shows`.
     pub fn new(scheme: S, tape: T, width: u32, height: u32) -> Self
-        ensures fresh { λ r. ⌜ state-of means bytes r ≡ fresh (bytes tape) ⌝ }
-        ensures parts { λ r. ⌜ (r .scheme ≡ scheme) × (r .tape ≡ tape) × (r .width ≡ width) × (r .height ≡ height) ⌝ }
-        ensures tape { λ _. ⌜ Tape-of (length (bytes tape)) (bytes tape) ⌝ }
-        ensures conceals { λ _. ⌜ Conceals (means scheme) width height ⌝ }
-        ensures shows { λ _. ⌜ Shows (means scheme) width height ⌝ }
+        ensures fresh { state_of means bytes result ≡ fresh (bytes tape) }
+        ensures parts { (result.scheme ≡ scheme) × (result.tape ≡ tape) × (result.width ≡ width) × (result.height ≡ height) }
+        ensures tape { TapeOf (length (bytes tape)) (bytes tape) }
+        ensures conceals { Conceals (means scheme) width height }
+        ensures shows { Shows (means scheme) width height }
     {
         let supply = tape.waiting();
         Maker {
@@ -63,10 +55,10 @@ impl<S: Scheme + Drop, T: Tape + Drop> Maker<S, T> {
     // Answers the number of rows made. `TapeEnd` leaves the tape empty and zeros in the place of the strips; the other
     // refusals take no byte and leave the output unchanged.
     pub fn row(&mut self, secret: &[u8], out: &mut [u8], work: &mut [u8]) -> Result<u32, RowRefusal>
-        ensures answers { λ r. ⌜ Answers row-number r (outcome-of means bytes (now (self .entry)) (row-call (now (secret .entry)) (now (out .entry)) (now (work .entry))) .answer) ⌝ }
-        ensures output { λ _. ⌜ now (out .exit) ≡ outcome-of means bytes (now (self .entry)) (row-call (now (secret .entry)) (now (out .entry)) (now (work .entry))) .out ⌝ }
-        ensures wiped { λ _. ⌜ now (work .exit) ≡ outcome-of means bytes (now (self .entry)) (row-call (now (secret .entry)) (now (out .entry)) (now (work .entry))) .work ⌝ }
-        ensures leaves { λ _. ⌜ Leaves means bytes (now (self .entry)) (now (self .exit)) (outcome-of means bytes (now (self .entry)) (row-call (now (secret .entry)) (now (out .entry)) (now (work .entry)))) ⌝ }
+        ensures answers { Answers row_number result (outcome_of means bytes self.old (row-call secret.now out.old work.old)).answer }
+        ensures output { out.new ≡ (outcome_of means bytes self.old (row-call secret.now out.old work.old)).out }
+        ensures wiped { work.new ≡ (outcome_of means bytes self.old (row-call secret.now out.old work.old)).work }
+        ensures leaves { Leaves means bytes self.old self.new (outcome_of means bytes self.old (row-call secret.now out.old work.old)) }
     {
         let guard = WorkStrip { strip: work };
         if let Some(why) = self.row_refusal(secret.len(), out.len(), guard.strip.len()) {
@@ -77,8 +69,8 @@ impl<S: Scheme + Drop, T: Tape + Drop> Maker<S, T> {
 
     // Takes back the row made last, so that it is made again. Answers the number of rows spoiled.
     pub fn spoil(&mut self) -> Result<u16, SpoilRefusal>
-        ensures answers { λ r. ⌜ Answers spoil-number r (outcome-of means bytes (now (self .entry)) spoil-call .answer) ⌝ }
-        ensures leaves { λ _. ⌜ Leaves means bytes (now (self .entry)) (now (self .exit)) (outcome-of means bytes (now (self .entry)) spoil-call) ⌝ }
+        ensures answers { Answers spoil_number result (outcome_of means bytes self.old spoil-call).answer }
+        ensures leaves { Leaves means bytes self.old self.new (outcome_of means bytes self.old spoil-call) }
     {
         if self.made == 0 {
             return Err(SpoilRefusal::NoRowMade);
@@ -93,7 +85,7 @@ impl<S: Scheme + Drop, T: Tape + Drop> Maker<S, T> {
 
     // Rows made, rows spoiled, bytes taken.
     pub fn tally(&self) -> (u32, u16, usize)
-        ensures { λ r. ⌜ tallied (r .0) (r .1) (r .2) ≡ outcome-of means bytes (now (self .entry)) tally-call .answer ⌝ }
+        ensures { tallied result.0 result.1 result.2 ≡ (outcome_of means bytes self.now tally-call).answer }
     {
         (
             self.made,
@@ -104,7 +96,7 @@ impl<S: Scheme + Drop, T: Tape + Drop> Maker<S, T> {
 
     // Ends the run. It is full if its page is of a size that rows are made of, and every row is made.
     pub fn close(self) -> Closed
-        ensures { λ r. ⌜ answer-of r ≡ close-answer (means (self .scheme)) (self .width) (self .height) (state-of means bytes self) ⌝ }
+        ensures { answer_of result ≡ close_answer (means self.scheme) self.width self.height (state_of means bytes self) }
     {
         let (made, spoiled, taken) = self.tally();
         Closed {
@@ -117,8 +109,8 @@ impl<S: Scheme + Drop, T: Tape + Drop> Maker<S, T> {
 
     // Why no row of the page is made, whatever its buffers.
     fn page_refusal(&self) -> Option<RowRefusal>
-        ensures why { λ r. ⌜ mapped row-number r ≡ refusal-of (page-refusals (means (now (self .entry) .scheme)) (now (self .entry) .width) (now (self .entry) .height)) ⌝ }
-        ensures fits { λ r. ⌜ Cases r (PageFits (means (now (self .entry) .scheme)) (now (self .entry) .width) (now (self .entry) .height)) (λ _. Unit {0}) ⌝ }
+        ensures why { option_map row_number result ≡ refusal_of (page_refusals (means self.now.scheme) self.now.width self.now.height) }
+        ensures fits { IfNone result (PageFits (means self.now.scheme) self.now.width self.now.height) }
     {
         let w = self.width;
         let h = self.height;
@@ -133,8 +125,8 @@ impl<S: Scheme + Drop, T: Tape + Drop> Maker<S, T> {
 
     // Why a row is refused before a byte is taken, by the lengths of its buffers.
     fn row_refusal(&self, secret: usize, out: usize, work: usize) -> Option<RowRefusal>
-        ensures why { λ r. ⌜ mapped row-number r ≡ row-refusal (means (now (self .entry) .scheme)) (now (self .entry) .width) (now (self .entry) .height) (now (self .entry) .made) secret out work ⌝ }
-        ensures fits { λ r. ⌜ Cases r (RowFits (means (now (self .entry) .scheme)) (now (self .entry) .width) (now (self .entry) .height) (now (self .entry) .made) secret out work) (λ _. Unit {0}) ⌝ }
+        ensures why { option_map row_number result ≡ row_refusal (means self.now.scheme) self.now.width self.now.height self.now.made secret out work }
+        ensures fits { IfNone result (RowFits (means self.now.scheme) self.now.width self.now.height self.now.made secret out work) }
     {
         if let Some(why) = self.page_refusal() {
             return Some(why);
@@ -163,10 +155,10 @@ impl<S: Scheme + Drop, T: Tape + Drop> Maker<S, T> {
         out: &mut [u8],
         work: &mut [u8],
     ) -> Result<u32, RowRefusal>
-        requires { ⌜ RowFits (means (now self .scheme)) (now self .width) (now self .height) (now self .made) (length (now secret)) (length (now out)) (length (now work)) ⌝ }
-        ensures answers { λ r. ⌜ Answers row-number r (row-written means bytes (now (self .entry)) (now (secret .entry)) (now (out .entry)) (now (work .entry)) .answer) ⌝ }
-        ensures output { λ _. ⌜ now (out .exit) ≡ row-written means bytes (now (self .entry)) (now (secret .entry)) (now (out .entry)) (now (work .entry)) .out ⌝ }
-        ensures leaves { λ _. ⌜ Leaves means bytes (now (self .entry)) (now (self .exit)) (row-written means bytes (now (self .entry)) (now (secret .entry)) (now (out .entry)) (now (work .entry))) ⌝ }
+        requires { RowFits (means self.old.scheme) self.old.width self.old.height self.old.made (length secret.now) (length out.old) (length work.old) }
+        ensures answers { Answers row_number result (row_written means bytes self.old secret.now out.old work.old).answer }
+        ensures output { out.new ≡ (row_written means bytes self.old secret.now out.old work.old).out }
+        ensures leaves { Leaves means bytes self.old self.new (row_written means bytes self.old secret.now out.old work.old) }
     {
         let row = SecretRow {
             pixels: secret,

@@ -1,20 +1,14 @@
 // Fills the strips of a row: draws an order for each pixel and sets its squares on every film.
-ghost use mathlib.Core.Path.{_≡_};
-ghost use mathlib.Core.List.{_++_};
-ghost use Prim.Native.Nat.{_+_, _*_, _<_, _≤_};
-ghost use lib.ListN.{length, drop, replicate};
-ghost use Rattle·std.specs.Options.{isSome};
-ghost use Rattle·std.specs.Orderings.{When};
-ghost use Rattle·std.specs.shelf.Lists.{All};
-ghost use Rattle·schemes.specs.Strips.{most-squares, strip-squares, strip-size};
-ghost use Rattle·tapes.specs.Blocks.{outcome};
-ghost use Rattle·runs.specs.Films.{films-size};
-ghost use Rattle·maker·specs.Filling.{Blackened, one-square, block, Tabled, Filled, Written, RanShort, Cleared};
+ghost use Rattle.std.specs.Prelude.{◌≡◌, ◌+◌, ◌*◌, ◌<◌, ◌≤◌, ◌++◌, length, drop, replicate, is_some, MatchBool};
+ghost use Rattle.std.specs.List.{AllByRecursion as All};
+ghost use Rattle.schemes.specs.Strips.{most_squares, strip_squares, strip_size};
+ghost use Rattle.tapes.specs.Blocks.{outcome};
+ghost use Rattle.runs.specs.Films.{films_size};
+ghost use Rattle.maker.specs.Filling.{Blackened, one_square, block, Tabled, Filled, Written, RanShort, Cleared};
+
 use crate::tables::Tables;
-use schemes::Scheme;
-use schemes::bit_at;
-use tapes::Tape;
-use tapes::draw_order;
+use schemes::{Scheme, bit_at};
+use tapes::{Tape, draw_order};
 
 // A row of the secret picture: its packed pixels, its width in pixels, and the size of one of its strips in bytes.
 #[derive(Clone, Copy)]
@@ -26,11 +20,11 @@ pub struct SecretRow<'a> {
 
 // Sets one bit of each strip whose bit is set in `cells`.
 fn set_square(out: &mut [u8], size: usize, n: u8, place: usize, cells: u8)
-    requires out { ⌜ length (now out) ≡ n * size ⌝ }
-    requires place { ⌜ place < 8 * size ⌝ }
-    requires few { ⌜ n ≤ 8 ⌝ }
-    requires short { ⌜ size ≤ 4096 ⌝ }
-    ensures { λ _. ⌜ Blackened n size (now (out .entry)) (now (out .exit)) (one-square place cells) ⌝ }
+    requires out { length out.old ≡ n * size }
+    requires place { place < 8 * size }
+    requires few { n ≤ 8 }
+    requires short { size ≤ 4096 }
+    ensures { Blackened n size out.old out.new (one_square place cells) }
 {
     let shift = 7 - place % 8;
     let mut byte = place / 8;
@@ -42,12 +36,12 @@ fn set_square(out: &mut [u8], size: usize, n: u8, place: usize, cells: u8)
 
 // Sets the squares of one pixel on every strip, from bit `start` on.
 fn set_block(table: &[u8], order: &[u8], size: usize, n: u8, start: usize, out: &mut [u8])
-    requires out { ⌜ length (now out) ≡ n * size ⌝ }
-    requires place { ⌜ start + length (now order) ≤ 8 * size ⌝ }
-    requires few { ⌜ n ≤ 8 ⌝ }
-    requires short { ⌜ size ≤ 4096 ⌝ }
-    requires columns { ⌜ All (λ j. j < length (now table)) (now order) ⌝ }
-    ensures { λ _. ⌜ Blackened n size (now (out .entry)) (now (out .exit)) (block (now (table .entry)) (now (order .entry)) start (length (now (order .entry)))) ⌝ }
+    requires out { length out.old ≡ n * size }
+    requires place { start + length order.now ≤ 8 * size }
+    requires few { n ≤ 8 }
+    requires short { size ≤ 4096 }
+    requires columns { All (λ j. j < length table.now) order.now }
+    ensures { Blackened n size out.old out.new (block table.now order.now start (length order.now)) }
 {
     for p in 0..order.len() {
         set_square(out, size, n, start + p, table[order[p] as usize]);
@@ -56,10 +50,10 @@ fn set_block(table: &[u8], order: &[u8], size: usize, n: u8, start: usize, out: 
 
 // Draws the order of a block; false if the tape runs short.
 fn draw_block<T: Tape>(tape: &mut T, order: &mut [u8]) -> bool
-    requires { ⌜ 1 ≤ length (now order) ⌝ }
-    ensures answers { λ r. ⌜ r ≡ isSome (outcome (now (order .entry)) (bytes (now (tape .entry))) .answer) ⌝ }
-    ensures holds { λ _. ⌜ now (order .exit) ≡ outcome (now (order .entry)) (bytes (now (tape .entry))) .slice ⌝ }
-    ensures leaves { λ _. ⌜ bytes (now (tape .exit)) ≡ outcome (now (order .entry)) (bytes (now (tape .entry))) .waiting ⌝ }
+    requires { 1 ≤ length order.old }
+    ensures answers { result ≡ is_some (outcome order.old (bytes tape.old)).answer }
+    ensures holds { order.new ≡ (outcome order.old (bytes tape.old)).slice }
+    ensures leaves { bytes tape.new ≡ (outcome order.old (bytes tape.old)).waiting }
 {
     draw_order(tape, order).is_some()
 }
@@ -73,12 +67,12 @@ fn fill_pixels<S: Scheme, T: Tape>(
     out: &mut [u8],
     work: &mut [u8],
 ) -> bool
-    requires tables { ⌜ Tabled (means (now scheme)) (now tables .white) (now tables .black) ⌝ }
-    requires size { ⌜ row .size ≡ strip-size (means (now scheme) .m) (row .width) ⌝ }
-    requires squares { ⌜ strip-squares (means (now scheme) .m) (row .width) ≤ most-squares ⌝ }
-    requires out { ⌜ now out ≡ replicate (means (now scheme) .n * row .size) 0 ⌝ }
-    requires work { ⌜ length (now work) ≡ means (now scheme) .m ⌝ }
-    ensures { λ r. ⌜ When r (Filled (means (now (scheme .entry))) (row .entry .width) (now (row .entry .pixels)) (bytes (now (tape .entry))) (bytes (now (tape .exit))) (now (out .exit))) (RanShort (means (now (scheme .entry))) (row .entry .width) (bytes (now (tape .entry))) (bytes (now (tape .exit)))) ⌝ }
+    requires tables { Tabled (means scheme.now) tables.now.white tables.now.black }
+    requires size { row.size ≡ strip_size (means scheme.now).m row.width }
+    requires squares { strip_squares (means scheme.now).m row.width ≤ most_squares }
+    requires out { out.old ≡ replicate ((means scheme.now).n * row.size) 0 }
+    requires work { length work.old ≡ (means scheme.now).m }
+    ensures { MatchBool result (Filled (means scheme.now) row.entry.width row.entry.pixels.now (bytes tape.old) (bytes tape.new) out.new) (RanShort (means scheme.now) row.entry.width (bytes tape.old) (bytes tape.new)) }
 {
     let n = scheme.keyholders();
     let m = work.len();
@@ -96,8 +90,8 @@ fn fill_pixels<S: Scheme, T: Tape>(
 
 // Makes the first n bytes 0.
 fn clear(out: &mut [u8], n: usize)
-    requires { ⌜ n ≤ length (now out) ⌝ }
-    ensures { λ _. ⌜ now (out .exit) ≡ replicate n 0 ++ drop n (now (out .entry)) ⌝ }
+    requires { n ≤ length out.old }
+    ensures { out.new ≡ replicate n 0 ++ drop n out.old }
 {
     out[0..n].fill(0);
 }
@@ -110,11 +104,11 @@ pub fn write_films<S: Scheme, T: Tape>(
     out: &mut [u8],
     work: &mut [u8],
 ) -> bool
-    requires size { ⌜ row .size ≡ strip-size (means (now scheme) .m) (row .width) ⌝ }
-    requires squares { ⌜ strip-squares (means (now scheme) .m) (row .width) ≤ most-squares ⌝ }
-    requires out { ⌜ films-size (means (now scheme)) (row .width) ≤ length (now out) ⌝ }
-    requires work { ⌜ means (now scheme) .m ≤ length (now work) ⌝ }
-    ensures { λ r. ⌜ When r (Written (means (now (scheme .entry))) (row .entry .width) (now (row .entry .pixels)) (bytes (now (tape .entry))) (bytes (now (tape .exit))) (now (out .entry)) (now (out .exit))) (Cleared (means (now (scheme .entry))) (row .entry .width) (bytes (now (tape .entry))) (bytes (now (tape .exit))) (now (out .entry)) (now (out .exit))) ⌝ }
+    requires size { row.size ≡ strip_size (means scheme.now).m row.width }
+    requires squares { strip_squares (means scheme.now).m row.width ≤ most_squares }
+    requires out { films_size (means scheme.now) row.width ≤ length out.old }
+    requires work { (means scheme.now).m ≤ length work.old }
+    ensures { MatchBool result (Written (means scheme.now) row.entry.width row.entry.pixels.now (bytes tape.old) (bytes tape.new) out.old out.new) (Cleared (means scheme.now) row.entry.width (bytes tape.old) (bytes tape.new) out.old out.new) }
 {
     let m = usize::from(scheme.columns());
     let total = usize::from(scheme.keyholders()) * row.size;

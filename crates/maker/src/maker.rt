@@ -1,5 +1,5 @@
 // The maker's own state. Rests on nothing.
-ghost use Prim.Native.Nat.{_≤_};
+ghost use Rattle.std.specs.Prelude.{◌≤◌};
 
 // Makes the films of one page, row by row. It owns its scheme and its tape, so that no other maker draws from the same bytes.
 #[derive(Drop)]

@@ -1,19 +1,11 @@
 // Whole runs: a list of calls, carried out in order by one fresh maker.
-ghost use mathlib.Core.Path.{_≡_};
-ghost use mathlib.Core.List.{map};
-ghost use lib.ListN.{length};
-ghost use mathlib.Core.Bool.{true, false};
-ghost use Rattle·std.specs.Of.Vec.{vec-items};
-ghost use Rattle·std.specs.Options.{Cases};
-ghost use Rattle·std.specs.Vec.{made, refused};
-ghost use Rattle·runs.specs.Runs.{close-answer};
-ghost use Rattle·runs.specs.Law.{Tape-of, Conceals, Shows};
-ghost use Rattle·maker·specs.Makers.{state-of, outcome-of, Leaves, answer-of};
-ghost use Rattle·maker·specs.Plays.{call-of, ReplyTo, Played};
-use crate::Closed;
-use crate::Maker;
-use crate::RowRefusal;
-use crate::SpoilRefusal;
+ghost use Rattle.std.specs.Prelude.{◌≡◌, true, false, map, length, IfOk, IfErr, MatchOption};
+ghost use Rattle.runs.specs.Runs.{close_answer};
+ghost use Rattle.runs.specs.Law.{TapeOf, Conceals, Shows};
+ghost use Rattle.maker.specs.Makers.{state_of, outcome_of, Leaves, answer_of};
+ghost use Rattle.maker.specs.Plays.{call_of, ReplyTo, Played};
+
+use crate::{Closed, Maker, RowRefusal, SpoilRefusal};
 use schemes::Scheme;
 use std::alloc::Global;
 use tapes::Tape;
@@ -60,8 +52,8 @@ pub struct Unplayed<S, T> {
 
 // Carries out one call.
 fn perform<S: Scheme + Drop, T: Tape + Drop>(maker: &mut Maker<S, T>, call: Call) -> Reply
-    ensures reply { λ r. ⌜ ReplyTo (call-of call) (outcome-of means bytes (now (maker .entry)) (call-of call)) r ⌝ }
-    ensures leaves { λ _. ⌜ Leaves means bytes (now (maker .entry)) (now (maker .exit)) (outcome-of means bytes (now (maker .entry)) (call-of call)) ⌝ }
+    ensures reply { ReplyTo (call_of call) (outcome_of means bytes maker.old (call_of call)) result }
+    ensures leaves { Leaves means bytes maker.old maker.new (outcome_of means bytes maker.old (call_of call)) }
 {
     match call {
         Call::Row {
@@ -87,7 +79,7 @@ fn perform<S: Scheme + Drop, T: Tape + Drop>(maker: &mut Maker<S, T>, call: Call
 
 // Closes the run if `closes` says so; else it just ends.
 fn finish<S: Scheme + Drop, T: Tape + Drop>(maker: Maker<S, T>, closes: bool) -> Option<Closed>
-    ensures { λ r. ⌜ Cases r (closes ≡ false) (λ c. (closes ≡ true) × (answer-of c ≡ close-answer (means (maker .scheme)) (maker .width) (maker .height) (state-of means bytes maker))) ⌝ }
+    ensures { MatchOption result (closes ≡ false) (λ c. (closes ≡ true) × (answer_of c ≡ close_answer (means maker.scheme) maker.width maker.height (state_of means bytes maker))) }
 {
     if !closes {
         return None;
@@ -106,11 +98,11 @@ pub fn play<S: Scheme + Drop, T: Tape + Drop>(
     calls: Vec<Call>,
     closes: bool,
 ) -> Result<RunLog, Unplayed<S, T>>
-    ensures plays { λ r. ⌜ made r (λ p. Played (means scheme) width height (bytes tape) (map call-of (vec-items calls)) closes (vec-items (p .replies)) (p .closed)) ⌝ }
-    ensures no_memory { λ r. ⌜ refused r (λ u. (u .scheme ≡ scheme) × (u .tape ≡ tape) × (u .calls ≡ calls)) ⌝ }
-    ensures tape { λ _. ⌜ Tape-of (length (bytes tape)) (bytes tape) ⌝ }
-    ensures conceals { λ _. ⌜ Conceals (means scheme) width height ⌝ }
-    ensures shows { λ _. ⌜ Shows (means scheme) width height ⌝ }
+    ensures plays { IfOk result (λ p. Played (means scheme) width height (bytes tape) (map call_of calls.items) closes p.replies.items p.closed) }
+    ensures no_memory { IfErr result (λ u. (u.scheme ≡ scheme) × (u.tape ≡ tape) × (u.calls ≡ calls)) }
+    ensures tape { TapeOf (length (bytes tape)) (bytes tape) }
+    ensures conceals { Conceals (means scheme) width height }
+    ensures shows { Shows (means scheme) width height }
 {
     let mut replies = match Vec::with_capacity(heap, calls.len()) {
         Ok(empty) => empty,

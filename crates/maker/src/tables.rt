@@ -1,10 +1,8 @@
 // The cells of a scheme's columns as bits, asked once for a row.
-ghost use mathlib.Core.Path.{_≡_};
-ghost use mathlib.Core.Bool.{cond};
-ghost use Rattle·maker·specs.Filling.{cells-of, Table, Tabled};
-use schemes::Colour;
-use schemes::MOST_COLUMNS;
-use schemes::Scheme;
+ghost use Rattle.std.specs.Prelude.{◌≡◌, cond};
+ghost use Rattle.maker.specs.Filling.{cells_of, Table, Tabled};
+
+use schemes::{Colour, MOST_COLUMNS, Scheme};
 
 // A byte for each column: the cell of keyholder k + 1 is bit k.
 type Cells = [u8; MOST_COLUMNS as usize];
@@ -19,7 +17,7 @@ pub struct Tables {
 impl Tables {
     // The tables of a scheme.
     pub fn new<S: Scheme>(scheme: &S) -> Tables
-        ensures { λ r. ⌜ Tabled (means (now (scheme .entry))) (r .white) (r .black) ⌝ }
+        ensures { Tabled (means scheme.now) result.white result.black }
     {
         Tables {
             white: cells_of(scheme, Colour::White),
@@ -29,7 +27,7 @@ impl Tables {
 
     // The table for a pixel that is black, or white.
     pub fn for_pixel(&self, is_black: bool) -> &[u8]
-        ensures { λ r. ⌜ now r ≡ cond «is_black» (now (self .entry) .black) (now (self .entry) .white) ⌝ }
+        ensures { result.now ≡ cond is_black self.now.black self.now.white }
     {
         if is_black { &self.black } else { &self.white }
     }
@@ -37,7 +35,7 @@ impl Tables {
 
 // The cells of a column.
 fn column_cells<S: Scheme>(scheme: &S, colour: Colour, column: u8) -> u8
-    ensures { λ r. ⌜ r ≡ cells-of (means (now (scheme .entry))) colour column ⌝ }
+    ensures { result ≡ cells_of (means scheme.now) colour column }
 {
     let mut cells = 0;
     for k in 0..scheme.keyholders() {
@@ -50,7 +48,7 @@ fn column_cells<S: Scheme>(scheme: &S, colour: Colour, column: u8) -> u8
 
 // The cells of all columns, for one colour.
 fn cells_of<S: Scheme>(scheme: &S, colour: Colour) -> Cells
-    ensures { λ r. ⌜ Table (means (now (scheme .entry))) colour r ⌝ }
+    ensures { Table (means scheme.now) colour result }
 {
     let mut table = [0; MOST_COLUMNS as usize];
     for column in 0..scheme.columns() {

@@ -1,6 +1,5 @@
 // The guard over a work strip. Rests on nothing.
-ghost use mathlib.Core.Path.{_≡_};
-ghost use lib.ListN.{length, replicate};
+ghost use Rattle.std.specs.Prelude.{◌≡◌, length, replicate};
 
 // A work strip that is wiped when it goes out of scope, on whatever way out of a row call.
 pub struct WorkStrip<'a> {
@@ -9,7 +8,7 @@ pub struct WorkStrip<'a> {
 
 impl Drop for WorkStrip<'_> {
     fn drop(self)
-        ensures { λ _. ⌜ now (self .exit .0) ≡ replicate (length (now (self .entry .strip))) 0 ⌝ }
+        ensures { self.exit.0.now ≡ replicate (length self.entry.strip.now) 0 }
     {
         self.strip.fill(0);
         let WorkStrip { strip: _ } = self;

@@ -1,10 +1,8 @@
 // Rows, refusals and whole runs on examples. The schemes are all of n.
 use maker::*;
 use schemes::AllOf;
-use schemes::AllOfScheme;
-use schemes::SchemeRefusalDisplay;
-use std::alloc::AllocError;
-use std::alloc::Global;
+use std::alloc::{AllocError, Global};
+use std::process::Abort;
 use std::test::*;
 use tapes::*;
 
@@ -17,27 +15,29 @@ fn all_of(n: u8) -> Result<AllOf, Fail> {
 
 // Pixels white, black on the tape 5, 8: the strips are 1001 and 1010.
 #[test]
-fn worked_row(rt: LibcRuntime) -> Result<(), Fail> {
+fn worked_row(rt: HostRuntime) -> Result<(), Fail> {
     let tape = NoiseTape::new([5, 8].to_vec(rt.alloc())?);
     let mut maker = Maker::new(all_of(2)?, tape, 2, 1);
     let mut out = [9, 9, 7];
     let mut work = [5, 5, 5];
-    check_eq(maker.row(&[0b0111_1111], &mut out, &mut work), Ok(1))?;
-    check_eq(out, [0b1001_0000, 0b1010_0000, 7])?;
-    check_eq(work, [0, 0, 0])?;
-    check_eq(maker.tally(), (1, 0, 2))?;
+    assert_eq!(rt; maker.row(&[0b0111_1111], &mut out, &mut work), Ok(1));
+    assert_eq!(rt; out, [0b1001_0000, 0b1010_0000, 7]);
+    assert_eq!(rt; work, [0, 0, 0]);
+    assert_eq!(rt; maker.tally(), (1, 0, 2));
     let closed = Closed {
         made: 1,
         spoiled: 0,
         taken: 2,
         is_full: true,
     };
-    check_eq(maker.close(), closed)
+    assert_eq!(rt; maker.close(), closed);
+    Ok(())
 }
 
 // What the first row of a page answers, by the lengths of its buffers. It leaves the output unchanged, wipes the work strip
 // and takes no byte.
 fn refused(
+    rt: &impl Abort,
     heap: Global,
     page: (u32, u32),
     lengths: (usize, usize, usize),
@@ -50,18 +50,18 @@ fn refused(
         return Err(Fail::new("accepted"));
     };
     for byte in out.iter() {
-        check_eq(*byte, 9)?;
+        assert_eq!(rt; *byte, 9);
     }
     for byte in work.iter() {
-        check_eq(*byte, 0)?;
+        assert_eq!(rt; *byte, 0);
     }
-    check_eq(maker.tally(), (0, 0, 0))?;
+    assert_eq!(rt; maker.tally(), (0, 0, 0));
     Ok(why)
 }
 
 // All of 2 on 8 pixels wants a secret row of 1 byte, an output of 4 and a work strip of 2.
 #[test]
-fn early_refusals(rt: LibcRuntime) -> Result<(), Fail> {
+fn early_refusals(rt: HostRuntime) -> Result<(), Fail> {
     for (page, lengths, why) in [
         ((0, 1), (0, 4, 2), RowRefusal::PageSize),
         ((4097, 1), (513, 4, 2), RowRefusal::PageSize),
@@ -74,92 +74,99 @@ fn early_refusals(rt: LibcRuntime) -> Result<(), Fail> {
         ((8, 1), (1, 4, 1), RowRefusal::WorkShort),
         ((8, 1), (1, 4, 0), RowRefusal::WorkShort),
     ] {
-        check_eq(refused(rt.alloc(), page, lengths)?, why)?;
+        assert_eq!(rt; refused(&rt, rt.alloc(), page, lengths)?, why);
     }
     Ok(())
 }
 
 #[test]
-fn greatest_page() -> Result<(), Fail> {
+fn greatest_page(rt: HostRuntime) -> Result<(), Fail> {
     let mut maker = Maker::new(all_of(2)?, PracticeTape::new(0, 1, 4096), 4096, 4096);
     let mut out = [9; 2049];
     let mut work = [7; 2];
-    check_eq(maker.row(&[0; 512], &mut out, &mut work), Ok(1))?;
+    assert_eq!(rt; maker.row(&[0; 512], &mut out, &mut work), Ok(1));
     // digit 0 and digit 1 in turn: the order 0 1 shows 01, the order 1 0 shows 10
-    check_eq(out[0], 0b0110_0110)?;
-    check_eq(out[2047], 0b0110_0110)?;
-    check_eq(out[2048], 9)?;
-    check_eq(maker.tally(), (1, 0, 4096))
+    assert_eq!(rt; out[0], 0b0110_0110);
+    assert_eq!(rt; out[2047], 0b0110_0110);
+    assert_eq!(rt; out[2048], 9);
+    assert_eq!(rt; maker.tally(), (1, 0, 4096));
+    Ok(())
 }
 
 // All of 8 has 128 columns: 256 pixels make 32,768 squares.
 #[test]
-fn longest_strip() -> Result<(), Fail> {
+fn longest_strip(rt: HostRuntime) -> Result<(), Fail> {
     let mut out = [9; 32768];
     let mut work = [7; 128];
     let mut maker = Maker::new(all_of(8)?, PracticeTape::new(0, 1, 100_000), 256, 1);
-    check_eq(maker.row(&[0; 32], &mut out, &mut work), Ok(1))?;
-    check_eq(work, [0; 128])?;
+    assert_eq!(rt; maker.row(&[0; 32], &mut out, &mut work), Ok(1));
+    assert_eq!(rt; work, [0; 128]);
     let mut wider = Maker::new(all_of(8)?, PracticeTape::new(0, 1, 100_000), 257, 1);
     let mut unchanged = [9; 4];
-    check_eq(
+    assert_eq!(rt;
         wider.row(&[0; 33], &mut unchanged, &mut work),
-        Err(RowRefusal::StripLength),
-    )?;
-    check_eq(unchanged, [9; 4])?;
-    check_eq(wider.close().is_full, false)
+        Err(RowRefusal::StripLength)
+    );
+    assert_eq!(rt; unchanged, [9; 4]);
+    assert_eq!(rt; wider.close().is_full, false);
+    Ok(())
 }
 
 // All of 3 draws three digits for a block: the tape ends in the second.
 #[test]
-fn tape_ends_within_a_block() -> Result<(), Fail> {
+fn tape_ends_within_a_block(rt: HostRuntime) -> Result<(), Fail> {
     let mut maker = Maker::new(all_of(3)?, PracticeTape::new(0, 0, 4), 2, 1);
     let mut out = [9, 9, 9, 8];
     let mut work = [7; 5];
     let ended = Err(RowRefusal::TapeEnd);
-    check_eq(maker.row(&[255], &mut out, &mut work), ended)?;
-    check_eq(out, [0, 0, 0, 8])?;
-    check_eq(work, [0; 5])?;
-    check_eq(maker.tally(), (0, 0, 4))
+    assert_eq!(rt; maker.row(&[255], &mut out, &mut work), ended);
+    assert_eq!(rt; out, [0, 0, 0, 8]);
+    assert_eq!(rt; work, [0; 5]);
+    assert_eq!(rt; maker.tally(), (0, 0, 4));
+    Ok(())
 }
 
 // All of 1 has one column, so that no byte is wanted, and its film is the picture.
 #[test]
-fn one_column_on_an_empty_tape() -> Result<(), Fail> {
+fn one_column_on_an_empty_tape(rt: HostRuntime) -> Result<(), Fail> {
     let mut maker = Maker::new(all_of(1)?, PracticeTape::new(0, 0, 0), 11, 1);
     let mut out = [9; 3];
     let mut work = [7];
-    check_eq(maker.row(&[0b1010_0110, 255], &mut out, &mut work), Ok(1))?;
-    check_eq(out, [0b1010_0110, 0b1110_0000, 9])?;
-    check_eq(work, [0])?;
-    check_eq(maker.tally(), (1, 0, 0))
+    assert_eq!(rt; maker.row(&[0b1010_0110, 255], &mut out, &mut work), Ok(1));
+    assert_eq!(rt; out, [0b1010_0110, 0b1110_0000, 9]);
+    assert_eq!(rt; work, [0]);
+    assert_eq!(rt; maker.tally(), (1, 0, 0));
+    Ok(())
 }
 
 // One row after another, each answering this, with the output and the work strip as they are left.
 fn one_pixel(
+    rt: &impl Abort,
     maker: &mut Maker<AllOf, PracticeTape>,
     answer: Result<u32, RowRefusal>,
     left: u8,
 ) -> Result<(), Fail> {
     let mut out = [9];
     let mut work = [7];
-    check_eq(maker.row(&[128], &mut out, &mut work), answer)?;
-    check_eq(out, [left])?;
-    check_eq(work, [0])
+    assert_eq!(rt; maker.row(&[128], &mut out, &mut work), answer);
+    assert_eq!(rt; out, [left]);
+    assert_eq!(rt; work, [0]);
+    Ok(())
 }
 
 #[test]
-fn spoiled_rows() -> Result<(), Fail> {
+fn spoiled_rows(rt: HostRuntime) -> Result<(), Fail> {
     let mut maker = Maker::new(all_of(1)?, PracticeTape::new(0, 0, 0), 1, 1);
-    check_eq(maker.spoil(), Err(SpoilRefusal::NoRowMade))?;
+    assert_eq!(rt; maker.spoil(), Err(SpoilRefusal::NoRowMade));
     for spoiled in 1..=65535 {
-        one_pixel(&mut maker, Ok(1), 128)?;
-        check_eq(maker.spoil(), Ok(spoiled))?;
+        one_pixel(&rt, &mut maker, Ok(1), 128)?;
+        assert_eq!(rt; maker.spoil(), Ok(spoiled));
     }
-    one_pixel(&mut maker, Ok(1), 128)?;
-    one_pixel(&mut maker, Err(RowRefusal::AllRowsMade), 9)?;
-    check_eq(maker.spoil(), Err(SpoilRefusal::CountFull))?;
-    check_eq(maker.tally(), (1, 65535, 0))
+    one_pixel(&rt, &mut maker, Ok(1), 128)?;
+    one_pixel(&rt, &mut maker, Err(RowRefusal::AllRowsMade), 9)?;
+    assert_eq!(rt; maker.spoil(), Err(SpoilRefusal::CountFull));
+    assert_eq!(rt; maker.tally(), (1, 65535, 0));
+    Ok(())
 }
 
 fn row_call(heap: Global, secret: &[u8]) -> Result<Call, AllocError> {
@@ -188,28 +195,31 @@ fn check_row(
     else {
         return Err(Fail::new("no reply to a row"));
     };
-    check_eq(answered, answer)?;
-    check(back.as_slice() == secret)?;
-    check(left.as_slice() == &out)?;
-    check(work.as_slice() == &[0, 0, 0])
+    assert_eq!(answered, answer);
+    assert!(back.as_slice() == secret);
+    assert!(left.as_slice() == &out);
+    assert!(work.as_slice() == &[0, 0, 0]);
+    Ok(())
 }
 
 fn check_spoil(reply: Option<Reply>, answer: Result<u16, SpoilRefusal>) -> Result<(), Fail> {
     let Some(Reply::Spoil(answered)) = reply else {
         return Err(Fail::new("no reply to a spoil"));
     };
-    check_eq(answered, answer)
+    assert_eq!(answered, answer);
+    Ok(())
 }
 
 fn check_tally(reply: Option<Reply>, counts: (u32, u16, usize)) -> Result<(), Fail> {
     let Some(Reply::Tally(made, spoiled, taken)) = reply else {
         return Err(Fail::new("no reply to a tally"));
     };
-    check_eq((made, spoiled, taken), counts)
+    assert_eq!((made, spoiled, taken), counts);
+    Ok(())
 }
 
 // All of 2 on the tape 5, 8, 2, 7, 1: a row, a spoiled row made again with another order, and the tape's end.
-fn played(rt: LibcRuntime, closes: bool) -> Result<Option<Closed>, Fail> {
+fn played(rt: HostRuntime, closes: bool) -> Result<Option<Closed>, Fail> {
     let heap = rt.alloc();
     let pixels = [0b0100_0000];
     let mut calls = Vec::new(heap);
@@ -258,35 +268,38 @@ fn played(rt: LibcRuntime, closes: bool) -> Result<Option<Closed>, Fail> {
     check_row(replies.next(), Err(RowRefusal::TapeEnd), &pixels, [0, 0, 7])?;
     check_spoil(replies.next(), Err(SpoilRefusal::NoRowMade))?;
     check_tally(replies.next(), (0, 2, 5))?;
-    check(replies.next().is_none())?;
+    assert!(replies.next().is_none());
     Ok(log.closed)
 }
 
 #[test]
-fn whole_run_closed(rt: LibcRuntime) -> Result<(), Fail> {
+fn whole_run_closed(rt: HostRuntime) -> Result<(), Fail> {
     let closed = Closed {
         made: 0,
         spoiled: 2,
         taken: 5,
         is_full: false,
     };
-    check_eq(played(rt, true)?, Some(closed))
+    assert_eq!(rt; played(rt, true)?, Some(closed));
+    Ok(())
 }
 
 #[test]
-fn whole_run_left_open(rt: LibcRuntime) -> Result<(), Fail> {
-    check_eq(played(rt, false)?, None)
+fn whole_run_left_open(rt: HostRuntime) -> Result<(), Fail> {
+    assert_eq!(rt; played(rt, false)?, None);
+    Ok(())
 }
 
 #[test]
-fn numbers() -> Result<(), Fail> {
-    check_eq(RowRefusal::PageSize.number(), 17)?;
-    check_eq(RowRefusal::StripLength.number(), 18)?;
-    check_eq(RowRefusal::AllRowsMade.number(), 19)?;
-    check_eq(RowRefusal::SecretLength.number(), 20)?;
-    check_eq(RowRefusal::OutputShort.number(), 21)?;
-    check_eq(RowRefusal::WorkShort.number(), 22)?;
-    check_eq(RowRefusal::TapeEnd.number(), 23)?;
-    check_eq(SpoilRefusal::NoRowMade.number(), 24)?;
-    check_eq(SpoilRefusal::CountFull.number(), 25)
+fn numbers(rt: HostRuntime) -> Result<(), Fail> {
+    assert_eq!(rt; RowRefusal::PageSize.number(), 17);
+    assert_eq!(rt; RowRefusal::StripLength.number(), 18);
+    assert_eq!(rt; RowRefusal::AllRowsMade.number(), 19);
+    assert_eq!(rt; RowRefusal::SecretLength.number(), 20);
+    assert_eq!(rt; RowRefusal::OutputShort.number(), 21);
+    assert_eq!(rt; RowRefusal::WorkShort.number(), 22);
+    assert_eq!(rt; RowRefusal::TapeEnd.number(), 23);
+    assert_eq!(rt; SpoilRefusal::NoRowMade.number(), 24);
+    assert_eq!(rt; SpoilRefusal::CountFull.number(), 25);
+    Ok(())
 }

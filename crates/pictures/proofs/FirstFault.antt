@@ -1,35 +1,28 @@
 -- The first fault, by what opening answers for longer and for shorter files. Serves the clause `first_fault` of `open`.
 -- Assumes nothing.
-use mathlib.Core.Path.{_≡_, refl, sym, ap, subst, _∙_}
-use mathlib.Core.Bool.{Bool, true, false, cond, _&&_, _||_}
-use mathlib.Core.List.{List, [], _∷_, _++_, append-assoc, append-nil}
-use mathlib.Core.Logic.{_⊎_, inl, inr, ⊎-elim}
-use Prim.Native.Nat.{ℕ, _+_, _-_, _*_, _≤_, _<_}
-use native.Mathlib.Omega.{arith}
-use lib.Dec.{leb, ltb, eqb}
-use lib.ListN.{length, take, drop, length-append, length-drop, take-append-drop}
-use lib.Seq.{drop-append-seam}
-use Rattle·std.proofs.shelf.Lists.{drop-append-le, drop-all, length-take-le}
-use Rattle·std.proofs.shelf.Tests.{cond-true, cond-false, cases-bool, lt-ltb, le-ltb, ltb-true, ltb-false}
-use Rattle·pictures·specs.Refusals.{number-of}
-use Rattle·pictures·specs.Limits.{most-side, is-side}
-use Rattle·pictures·specs.Rows.{row-bytes}
-use Rattle·pictures·specs.Reading.{Read, got, fault, _⟫_, is-white, is-digit, magic, blank, gap, digits, number, white, all-rows, opened, FaultAt}
-use Rattle·pictures·specs.FirstFault.{FirstFault, Whole}
-use Rattle·pictures·specs.declared.refusals.PictureRefusal.{PictureRefusal}
-use Rattle·pictures·specs.declared.refusals.PictureRefusal.the-variants.{WrongMagic, WrongByte, NumberOutside, EndsEarly, BytesAfterRows, NoSuchRow}
+use Rattle.std.proofs.Common.{◌≡◌, ℕ, ◌+◌, ◌-◌, ◌*◌, ◌<◌, ◌≤◌, Bool, true, false, cond, ◌&&◌, ◌||◌, eqb, ltb, leb, ◌⊎◌, List, [], ◌∷◌, ◌++◌, length, take, drop, sym, refl, ap, ◌∙◌, subst, inl, inr, ⊎_elim, append_assoc, append-nil, arith, length-append, length-drop, take-append-drop}
+use lib.Seq.{drop-append_seam}
+use Rattle.std.proofs.lemmas.List.{drop-append-le, drop_all, length-take-le}
+use Rattle.std.proofs.lemmas.Bool.{cond-true, cond-false, cases_Bool, lt-ltb, le-ltb, ltb-true, ltb-false}
+use Rattle.pictures.specs.Refusals.{number_of}
+use Rattle.pictures.specs.Limits.{most_side, is_side}
+use Rattle.pictures.specs.Rows.{row_bytes}
+use Rattle.pictures.specs.Reading.{Read, got, fault, ◌⟫◌, is_white, is_digit, magic, blank, gap, digits, number, white, all_rows, opened, FaultAt}
+use Rattle.pictures.specs.FirstFault.{FirstFault, Whole}
+use Rattle.pictures.specs.declared.refusals.PictureRefusal.{PictureRefusal}
+use Rattle.pictures.specs.declared.refusals.PictureRefusal.TheVariants.{WrongMagic, WrongByte, NumberOutside, EndsEarly, BytesAfterRows, NoSuchRow}
 
 -- ---- "too early" and the other refusals
-other : (why : PictureRefusal) → (number-of why ≡ 4 → ⊥) → why ≡ EndsEarly → ⊥
-other why never e = never (ap number-of e)
+other : (why : PictureRefusal) → (number_of why ≡ 4 → ⊥) → why ≡ EndsEarly → ⊥
+other why never e = never (ap number_of e)
 
-too-early-or-not : (why : PictureRefusal) → (why ≡ EndsEarly) ⊎ (why ≡ EndsEarly → ⊥)
-too-early-or-not WrongMagic = inr (other WrongMagic (λ e. omega arith))
-too-early-or-not WrongByte = inr (other WrongByte (λ e. omega arith))
-too-early-or-not NumberOutside = inr (other NumberOutside (λ e. omega arith))
-too-early-or-not EndsEarly = inl refl
-too-early-or-not BytesAfterRows = inr (other BytesAfterRows (λ e. omega arith))
-too-early-or-not NoSuchRow = inr (other NoSuchRow (λ e. omega arith))
+too_early_or_not : (why : PictureRefusal) → (why ≡ EndsEarly) ⊎ (why ≡ EndsEarly → ⊥)
+too_early_or_not WrongMagic = inr (other WrongMagic (λ e. omega arith))
+too_early_or_not WrongByte = inr (other WrongByte (λ e. omega arith))
+too_early_or_not NumberOutside = inr (other NumberOutside (λ e. omega arith))
+too_early_or_not EndsEarly = inl refl
+too_early_or_not BytesAfterRows = inr (other BytesAfterRows (λ e. omega arith))
+too_early_or_not NoSuchRow = inr (other NoSuchRow (λ e. omega arith))
 
 -- ---- more bytes after the file
 -- A part that was read is read still, and a fault other than "too early" stays.
@@ -37,65 +30,65 @@ abbrev Longer : {A : Type 0} → List ℕ → Read A → Read A → Type 0
 Longer more (got x t) r = r ≡ got x (t ++ more)
 Longer more (fault why t) r = (why ≡ EndsEarly → ⊥) → r ≡ fault why (t ++ more)
 
-longer-cond : {A : Type 0} (more : List ℕ) (t : Bool) (x y x′ y′ : Read A) → Longer more x x′ → Longer more y y′ → Longer more (cond t x y) (cond t x′ y′)
-longer-cond more true x y x′ y′ p q = p
-longer-cond more false x y x′ y′ p q = q
+longer_cond : {A : Type 0} (more : List ℕ) (t : Bool) (x y x' y' : Read A) → Longer more x x' → Longer more y y' → Longer more (cond t x y) (cond t x' y')
+longer_cond more true x y x' y' p q = p
+longer_cond more false x y x' y' p q = q
 
 ends : {A : Type 0} (more : List ℕ) (r : Read A) → Longer more (fault EndsEarly []) r
 ends more r ne = absurd (ne refl)
 
-longer-then : {A B : Type 0} (more : List ℕ) (r r′ : Read A) (next : A → List ℕ → Read B) → Longer more r r′ → ((x : A) (t : List ℕ) → Longer more (next x t) (next x (t ++ more))) → Longer more (r ⟫ next) (r′ ⟫ next)
-longer-then more (got x t) r′ next e n = subst (λ r. Longer more (next x t) (r ⟫ next)) (sym e) (n x t)
-longer-then more (fault why t) r′ next e n = λ ne. ap (λ r. r ⟫ next) (e ne)
+longer_then : {A B : Type 0} (more : List ℕ) (r r' : Read A) (next : A → List ℕ → Read B) → Longer more r r' → ((x : A) (t : List ℕ) → Longer more (next x t) (next x (t ++ more))) → Longer more (r ⟫ next) (r' ⟫ next)
+longer_then more (got x t) r' next e n = subst (λ r. Longer more (next x t) (r ⟫ next)) (sym e) (n x t)
+longer_then more (fault why t) r' next e n = λ ne. ap (λ r. r ⟫ next) (e ne)
 
 module _ (more : List ℕ) where
-  magic-longer : (s : List ℕ) → Longer more (magic s) (magic (s ++ more))
-  magic-longer [] = ends more _
-  magic-longer (a ∷ []) = ends more _
-  magic-longer (a ∷ b ∷ s) = longer-cond more (eqb a 80 && eqb b 52) (got tt s) (fault WrongMagic (a ∷ b ∷ s)) _ _ refl (λ _. refl)
+  magic_longer : (s : List ℕ) → Longer more (magic s) (magic (s ++ more))
+  magic_longer [] = ends more _
+  magic_longer (a ∷ []) = ends more _
+  magic_longer (a ∷ b ∷ s) = longer_cond more (eqb a 80 && eqb b 52) (got tt s) (fault WrongMagic (a ∷ b ∷ s)) _ _ refl (λ _. refl)
 
-  blank-longer : (s : List ℕ) (inside : Bool) → Longer more (blank inside s) (blank inside (s ++ more))
-  blank-longer [] inside = ends more _
-  blank-longer (b ∷ s) true = longer-cond more (eqb b 10) _ _ _ _ (blank-longer s false) (blank-longer s true)
-  blank-longer (b ∷ s) false = longer-cond more (is-white b) _ _ _ _ (blank-longer s false) (longer-cond more (eqb b 35) _ _ _ _ (blank-longer s true) refl)
+  blank_longer : (s : List ℕ) (inside : Bool) → Longer more (blank inside s) (blank inside (s ++ more))
+  blank_longer [] inside = ends more _
+  blank_longer (b ∷ s) true = longer_cond more (eqb b 10) _ _ _ _ (blank_longer s false) (blank_longer s true)
+  blank_longer (b ∷ s) false = longer_cond more (is_white b) _ _ _ _ (blank_longer s false) (longer_cond more (eqb b 35) _ _ _ _ (blank_longer s true) refl)
 
-  gap-longer : (s : List ℕ) → Longer more (gap s) (gap (s ++ more))
-  gap-longer [] = ends more _
-  gap-longer (b ∷ s) = longer-cond more (is-white b || eqb b 35) _ _ _ _ (blank-longer (b ∷ s) false) (λ _. refl)
+  gap_longer : (s : List ℕ) → Longer more (gap s) (gap (s ++ more))
+  gap_longer [] = ends more _
+  gap_longer (b ∷ s) = longer_cond more (is_white b || eqb b 35) _ _ _ _ (blank_longer (b ∷ s) false) (λ _. refl)
 
-  digits-longer : (limit : ℕ) (whole : List ℕ) (n : ℕ) (s : List ℕ) → Longer more (digits limit whole n s) (digits limit (whole ++ more) n (s ++ more))
-  digits-longer limit whole n [] = ends more _
-  digits-longer limit whole n (b ∷ s) = longer-cond more (is-digit b) _ _ _ _ (digits-longer limit whole (n * 10 + (b - 48)) s) (longer-cond more (is-side limit n) _ _ _ _ refl (λ _. refl))
+  digits_longer : (limit : ℕ) (whole : List ℕ) (n : ℕ) (s : List ℕ) → Longer more (digits limit whole n s) (digits limit (whole ++ more) n (s ++ more))
+  digits_longer limit whole n [] = ends more _
+  digits_longer limit whole n (b ∷ s) = longer_cond more (is_digit b) _ _ _ _ (digits_longer limit whole (n * 10 + (b - 48)) s) (longer_cond more (is_side limit n) _ _ _ _ refl (λ _. refl))
 
-  number-longer : (limit : ℕ) (s : List ℕ) → Longer more (number limit s) (number limit (s ++ more))
-  number-longer limit [] = ends more _
-  number-longer limit (b ∷ s) = longer-cond more (is-digit b) _ _ _ _ (digits-longer limit (b ∷ s) 0 (b ∷ s)) (λ _. refl)
+  number_longer : (limit : ℕ) (s : List ℕ) → Longer more (number limit s) (number limit (s ++ more))
+  number_longer limit [] = ends more _
+  number_longer limit (b ∷ s) = longer_cond more (is_digit b) _ _ _ _ (digits_longer limit (b ∷ s) 0 (b ∷ s)) (λ _. refl)
 
-  white-longer : (s : List ℕ) → Longer more (white s) (white (s ++ more))
-  white-longer [] = ends more _
-  white-longer (b ∷ s) = longer-cond more (is-white b) _ _ _ _ refl (λ _. refl)
+  white_longer : (s : List ℕ) → Longer more (white s) (white (s ++ more))
+  white_longer [] = ends more _
+  white_longer (b ∷ s) = longer_cond more (is_white b) _ _ _ _ refl (λ _. refl)
 
 -- and a picture that was whole has bytes after its rows
 abbrev Past : {A : Type 0} → List ℕ → Read A → Read A → Type 0
 Past more (got x t) r = 0 < length more → r ≡ fault BytesAfterRows more
 Past more (fault why t) r = (why ≡ EndsEarly → ⊥) → r ≡ fault why (t ++ more)
 
-past-then : {A B : Type 0} (more : List ℕ) (r r′ : Read A) (next : A → List ℕ → Read B) → Longer more r r′ → ((x : A) (t : List ℕ) → Past more (next x t) (next x (t ++ more))) → Past more (r ⟫ next) (r′ ⟫ next)
-past-then more (got x t) r′ next e n = subst (λ r. Past more (next x t) (r ⟫ next)) (sym e) (n x t)
-past-then more (fault why t) r′ next e n = λ ne. ap (λ r. r ⟫ next) (e ne)
+past_then : {A B : Type 0} (more : List ℕ) (r r' : Read A) (next : A → List ℕ → Read B) → Longer more r r' → ((x : A) (t : List ℕ) → Past more (next x t) (next x (t ++ more))) → Past more (r ⟫ next) (r' ⟫ next)
+past_then more (got x t) r' next e n = subst (λ r. Past more (next x t) (r ⟫ next)) (sym e) (n x t)
+past_then more (fault why t) r' next e n = λ ne. ap (λ r. r ⟫ next) (e ne)
 
-past-rows : (more : List ℕ) (w h : ℕ) (s : List ℕ) → Past more (all-rows w h s) (all-rows w h (s ++ more))
-past-rows more w h s =
-    let size = h * row-bytes w in
+past_rows : (more : List ℕ) (w h : ℕ) (s : List ℕ) → Past more (all_rows w h s) (all_rows w h (s ++ more))
+past_rows more w h s =
+    let size = h * row_bytes w in
     let both = length-append s more in
-    let then = all-rows w h (s ++ more) in
-    ⊎-elim
+    let then = all_rows w h (s ++ more) in
+    ⊎_elim
     (λ p. subst (λ r. Past more r then) (sym (cond-true (ltb (length s) size) _ _ p)) (λ ne. absurd (ne refl)))
     (λ p.
     let le = ltb-false (length s) size p in
     let on : ltb (length (s ++ more)) size ≡ false = le-ltb (length (s ++ more)) size (omega arith) in
     let rest : drop size (s ++ more) ≡ drop size s ++ more = drop-append-le size s more le in
-    ⊎-elim
+    ⊎_elim
     (λ q.
     let lt = ltb-true size (length s) q in
     let over : ltb size (length (s ++ more)) ≡ true = lt-ltb size (length (s ++ more)) (omega arith) in
@@ -103,208 +96,208 @@ past-rows more w h s =
     (λ ne. cond-false _ _ _ on ∙ cond-true _ _ _ over ∙ ap (fault BytesAfterRows) rest))
     (λ q.
     let ge = ltb-false size (length s) q in
-    let gone : drop size s ≡ [] = drop-all size s ge in
+    let gone : drop size s ≡ [] = drop_all size s ge in
     subst (λ r. Past more r then) (sym (cond-false (ltb (length s) size) _ _ p ∙ cond-false (ltb size (length s)) _ _ q))
     (λ further.
     let over : ltb size (length (s ++ more)) ≡ true = lt-ltb size (length (s ++ more)) (omega arith) in
     cond-false _ _ _ on ∙ cond-true _ _ _ over ∙ ap (fault BytesAfterRows) (rest ∙ ap (λ l. l ++ more) gone)))
-    (cases-bool (ltb size (length s))))
-    (cases-bool (ltb (length s) size))
+    (cases_Bool (ltb size (length s))))
+    (cases_Bool (ltb (length s) size))
 
 past : (widest : ℕ) (more file : List ℕ) → Past more (opened widest file) (opened widest (file ++ more))
 past widest more file =
-    past-then more _ _ _ (magic-longer more file) (λ _ s.
-    past-then more _ _ _ (gap-longer more s) (λ _ s.
-    past-then more _ _ _ (number-longer more widest s) (λ w s.
-    past-then more _ _ _ (gap-longer more s) (λ _ s.
-    past-then more _ _ _ (number-longer more most-side s) (λ h s.
-    past-then more _ _ _ (white-longer more s) (λ _ s.
-    past-rows more w h s))))))
+    past_then more _ _ _ (magic_longer more file) (λ _ s.
+    past_then more _ _ _ (gap_longer more s) (λ _ s.
+    past_then more _ _ _ (number_longer more widest s) (λ w s.
+    past_then more _ _ _ (gap_longer more s) (λ _ s.
+    past_then more _ _ _ (number_longer more most_side s) (λ h s.
+    past_then more _ _ _ (white_longer more s) (λ _ s.
+    past_rows more w h s))))))
 
 -- ---- places: what is left is an end of the file
 record Suffix (t s : List ℕ) : Type 0 where
   front : List ℕ
   joins : s ≡ front ++ t
 
-whole-suffix : (s : List ℕ) → Suffix s s
-whole-suffix s = record { front = []; joins = refl }
+whole_suffix : (s : List ℕ) → Suffix s s
+whole_suffix s = record { front = []; joins = refl }
 
-nil-suffix : (s : List ℕ) → Suffix [] s
-nil-suffix s = record { front = s; joins = sym (append-nil s) }
+nil_suffix : (s : List ℕ) → Suffix [] s
+nil_suffix s = record { front = s; joins = sym (append-nil s) }
 
-cons-suffix : (b : ℕ) {t s : List ℕ} → Suffix t s → Suffix t (b ∷ s)
-cons-suffix b p = record { front = b ∷ p .front; joins = ap (λ l. b ∷ l) (p .joins) }
+cons_suffix : (b : ℕ) {t s : List ℕ} → Suffix t s → Suffix t (b ∷ s)
+cons_suffix b p = record { front = b ∷ p.front; joins = ap (λ l. b ∷ l) p.joins }
 
-drop-suffix : (n : ℕ) (s : List ℕ) → Suffix (drop n s) s
-drop-suffix n s = record { front = take n s; joins = sym (take-append-drop n s) }
+drop_suffix : (n : ℕ) (s : List ℕ) → Suffix (drop n s) s
+drop_suffix n s = record { front = take n s; joins = sym (take-append-drop n s) }
 
-suffix-trans : {t u s : List ℕ} → Suffix t u → Suffix u s → Suffix t s
-suffix-trans {t} p q = record { front = q .front ++ p .front; joins = q .joins ∙ ap (λ l. q .front ++ l) (p .joins) ∙ sym (append-assoc (q .front) (p .front) t) }
+suffix_trans : {t u s : List ℕ} → Suffix t u → Suffix u s → Suffix t s
+suffix_trans {t} p q = record { front = q.front ++ p.front; joins = q.joins ∙ ap (λ l. q.front ++ l) p.joins ∙ sym (append_assoc q.front p.front t) }
 
-suffix-length : {t s : List ℕ} → Suffix t s → length t ≤ length s
-suffix-length {t} p = omega (arith, ap length (p .joins), length-append (p .front) t)
+suffix_length : {t s : List ℕ} → Suffix t s → length t ≤ length s
+suffix_length {t} p = omega (arith, ap length p.joins, length-append p.front t)
 
 -- "too early" stands at the end, and every other fault before a byte
 record Placed (s : List ℕ) (why : PictureRefusal) (t : List ℕ) : Type 0 where
   suffix : Suffix t s
-  at-end : why ≡ EndsEarly → t ≡ []
-  at-byte : (why ≡ EndsEarly → ⊥) → 0 < length t
+  at_end : why ≡ EndsEarly → t ≡ []
+  at_byte : (why ≡ EndsEarly → ⊥) → 0 < length t
 
 abbrev Within : {A : Type 0} → List ℕ → Read A → Type 0
 Within s (got x t) = Suffix t s
 Within s (fault why t) = Placed s why t
 
-within-cond : {A : Type 0} (s : List ℕ) (t : Bool) (x y : Read A) → Within s x → Within s y → Within s (cond t x y)
-within-cond s true x y p q = p
-within-cond s false x y p q = q
+within_cond : {A : Type 0} (s : List ℕ) (t : Bool) (x y : Read A) → Within s x → Within s y → Within s (cond t x y)
+within_cond s true x y p q = p
+within_cond s false x y p q = q
 
-within-more : {A : Type 0} (u s : List ℕ) (r : Read A) → Suffix u s → Within u r → Within s r
-within-more u s (got x t) q p = suffix-trans p q
-within-more u s (fault why t) q p = record { suffix = suffix-trans (p .suffix) q; at-end = p .at-end; at-byte = p .at-byte }
+within_more : {A : Type 0} (u s : List ℕ) (r : Read A) → Suffix u s → Within u r → Within s r
+within_more u s (got x t) q p = suffix_trans p q
+within_more u s (fault why t) q p = record { suffix = suffix_trans p.suffix q; at_end = p.at_end; at_byte = p.at_byte }
 
-within-next : {A : Type 0} (b : ℕ) (s : List ℕ) (r : Read A) → Within s r → Within (b ∷ s) r
-within-next b s r p = within-more s (b ∷ s) r (cons-suffix b (whole-suffix s)) p
+within_next : {A : Type 0} (b : ℕ) (s : List ℕ) (r : Read A) → Within s r → Within (b ∷ s) r
+within_next b s r p = within_more s (b ∷ s) r (cons_suffix b (whole_suffix s)) p
 
-within-then : {A B : Type 0} (s : List ℕ) (r : Read A) (next : A → List ℕ → Read B) → Within s r → ((x : A) (t : List ℕ) → Within t (next x t)) → Within s (r ⟫ next)
-within-then s (got x t) next p n = within-more t s (next x t) p (n x t)
-within-then s (fault why t) next p n = p
+within_then : {A B : Type 0} (s : List ℕ) (r : Read A) (next : A → List ℕ → Read B) → Within s r → ((x : A) (t : List ℕ) → Within t (next x t)) → Within s (r ⟫ next)
+within_then s (got x t) next p n = within_more t s (next x t) p (n x t)
+within_then s (fault why t) next p n = p
 
 ended : (s : List ℕ) → Placed s EndsEarly []
-ended s = record { suffix = nil-suffix s; at-end = λ _. refl; at-byte = λ never. absurd (never refl) }
+ended s = record { suffix = nil_suffix s; at_end = λ _. refl; at_byte = λ never. absurd (never refl) }
 
-here : (why : PictureRefusal) (s : List ℕ) (b : ℕ) (t : List ℕ) → (number-of why ≡ 4 → ⊥) → Suffix (b ∷ t) s → Placed s why (b ∷ t)
-here why s b t never p = record { suffix = p; at-end = λ e. absurd (other why never e); at-byte = λ _. omega arith }
+here : (why : PictureRefusal) (s : List ℕ) (b : ℕ) (t : List ℕ) → (number_of why ≡ 4 → ⊥) → Suffix (b ∷ t) s → Placed s why (b ∷ t)
+here why s b t never p = record { suffix = p; at_end = λ e. absurd (other why never e); at_byte = λ _. omega arith }
 
-magic-within : (s : List ℕ) → Within s (magic s)
-magic-within [] = ended _
-magic-within (a ∷ []) = ended _
-magic-within (a ∷ b ∷ s) =
-    within-cond _ (eqb a 80 && eqb b 52) (got tt s) (fault WrongMagic (a ∷ b ∷ s)) (cons-suffix a (cons-suffix b (whole-suffix s)))
-    (here WrongMagic _ a (b ∷ s) (λ e. omega arith) (whole-suffix _))
+magic_within : (s : List ℕ) → Within s (magic s)
+magic_within [] = ended _
+magic_within (a ∷ []) = ended _
+magic_within (a ∷ b ∷ s) =
+    within_cond _ (eqb a 80 && eqb b 52) (got tt s) (fault WrongMagic (a ∷ b ∷ s)) (cons_suffix a (cons_suffix b (whole_suffix s)))
+    (here WrongMagic _ a (b ∷ s) (λ e. omega arith) (whole_suffix _))
 
-blank-within : (s : List ℕ) (inside : Bool) → Within s (blank inside s)
-blank-within [] inside = ended _
-blank-within (b ∷ s) true = within-cond _ (eqb b 10) (blank false s) (blank true s) (within-next b s _ (blank-within s false)) (within-next b s _ (blank-within s true))
-blank-within (b ∷ s) false =
-    within-cond _ (is-white b) (blank false s) (cond (eqb b 35) (blank true s) (got tt (b ∷ s))) (within-next b s _ (blank-within s false))
-    (within-cond _ (eqb b 35) (blank true s) (got tt (b ∷ s)) (within-next b s _ (blank-within s true)) (whole-suffix _))
+blank_within : (s : List ℕ) (inside : Bool) → Within s (blank inside s)
+blank_within [] inside = ended _
+blank_within (b ∷ s) true = within_cond _ (eqb b 10) (blank false s) (blank true s) (within_next b s _ (blank_within s false)) (within_next b s _ (blank_within s true))
+blank_within (b ∷ s) false =
+    within_cond _ (is_white b) (blank false s) (cond (eqb b 35) (blank true s) (got tt (b ∷ s))) (within_next b s _ (blank_within s false))
+    (within_cond _ (eqb b 35) (blank true s) (got tt (b ∷ s)) (within_next b s _ (blank_within s true)) (whole_suffix _))
 
-gap-within : (s : List ℕ) → Within s (gap s)
-gap-within [] = ended _
-gap-within (b ∷ s) =
-    within-cond _ (is-white b || eqb b 35) (blank false (b ∷ s)) (fault WrongByte (b ∷ s)) (blank-within (b ∷ s) false)
-    (here WrongByte _ b s (λ e. omega arith) (whole-suffix _))
+gap_within : (s : List ℕ) → Within s (gap s)
+gap_within [] = ended _
+gap_within (b ∷ s) =
+    within_cond _ (is_white b || eqb b 35) (blank false (b ∷ s)) (fault WrongByte (b ∷ s)) (blank_within (b ∷ s) false)
+    (here WrongByte _ b s (λ e. omega arith) (whole_suffix _))
 
-digits-within : (limit a : ℕ) (whole : List ℕ) (n : ℕ) (s : List ℕ) → Suffix s (a ∷ whole) → Within (a ∷ whole) (digits limit (a ∷ whole) n s)
-digits-within limit a whole n [] p = ended _
-digits-within limit a whole n (b ∷ s) p =
-    within-cond _ (is-digit b) (digits limit (a ∷ whole) (n * 10 + (b - 48)) s) (cond (is-side limit n) (got n (b ∷ s)) (fault NumberOutside (a ∷ whole)))
-    (digits-within limit a whole (n * 10 + (b - 48)) s (suffix-trans (cons-suffix b (whole-suffix s)) p))
-    (within-cond _ (is-side limit n) (got n (b ∷ s)) (fault NumberOutside (a ∷ whole)) p (here NumberOutside _ a whole (λ e. omega arith) (whole-suffix _)))
+digits_within : (limit a : ℕ) (whole : List ℕ) (n : ℕ) (s : List ℕ) → Suffix s (a ∷ whole) → Within (a ∷ whole) (digits limit (a ∷ whole) n s)
+digits_within limit a whole n [] p = ended _
+digits_within limit a whole n (b ∷ s) p =
+    within_cond _ (is_digit b) (digits limit (a ∷ whole) (n * 10 + (b - 48)) s) (cond (is_side limit n) (got n (b ∷ s)) (fault NumberOutside (a ∷ whole)))
+    (digits_within limit a whole (n * 10 + (b - 48)) s (suffix_trans (cons_suffix b (whole_suffix s)) p))
+    (within_cond _ (is_side limit n) (got n (b ∷ s)) (fault NumberOutside (a ∷ whole)) p (here NumberOutside _ a whole (λ e. omega arith) (whole_suffix _)))
 
-number-within : (limit : ℕ) (s : List ℕ) → Within s (number limit s)
-number-within limit [] = ended _
-number-within limit (b ∷ s) =
-    within-cond _ (is-digit b) (digits limit (b ∷ s) 0 (b ∷ s)) (fault WrongByte (b ∷ s)) (digits-within limit b s 0 (b ∷ s) (whole-suffix _))
-    (here WrongByte _ b s (λ e. omega arith) (whole-suffix _))
+number_within : (limit : ℕ) (s : List ℕ) → Within s (number limit s)
+number_within limit [] = ended _
+number_within limit (b ∷ s) =
+    within_cond _ (is_digit b) (digits limit (b ∷ s) 0 (b ∷ s)) (fault WrongByte (b ∷ s)) (digits_within limit b s 0 (b ∷ s) (whole_suffix _))
+    (here WrongByte _ b s (λ e. omega arith) (whole_suffix _))
 
-white-within : (s : List ℕ) → Within s (white s)
-white-within [] = ended _
-white-within (b ∷ s) =
-    within-cond _ (is-white b) (got tt s) (fault WrongByte (b ∷ s)) (cons-suffix b (whole-suffix s)) (here WrongByte _ b s (λ e. omega arith) (whole-suffix _))
+white_within : (s : List ℕ) → Within s (white s)
+white_within [] = ended _
+white_within (b ∷ s) =
+    within_cond _ (is_white b) (got tt s) (fault WrongByte (b ∷ s)) (cons_suffix b (whole_suffix s)) (here WrongByte _ b s (λ e. omega arith) (whole_suffix _))
 
-rows-within : (w h : ℕ) (s : List ℕ) → Within s (all-rows w h s)
-rows-within w h s =
-    let size = h * row-bytes w in
-    within-cond _ (ltb (length s) size) (fault EndsEarly []) _ (ended _)
-    (⊎-elim
+rows_within : (w h : ℕ) (s : List ℕ) → Within s (all_rows w h s)
+rows_within w h s =
+    let size = h * row_bytes w in
+    within_cond _ (ltb (length s) size) (fault EndsEarly []) _ (ended _)
+    (⊎_elim
     (λ q. subst (Within s) (sym (cond-true (ltb size (length s)) _ _ q))
-    (record { suffix = drop-suffix size s; at-end = λ e. absurd (other BytesAfterRows (λ f. omega arith) e); at-byte = λ _. omega (arith, length-drop size s, ltb-true size (length s) q) }))
-    (λ q. subst (Within s) (sym (cond-false (ltb size (length s)) _ _ q)) (whole-suffix s))
-    (cases-bool (ltb size (length s))))
+    (record { suffix = drop_suffix size s; at_end = λ e. absurd (other BytesAfterRows (λ f. omega arith) e); at_byte = λ _. omega (arith, length-drop size s, ltb-true size (length s) q) }))
+    (λ q. subst (Within s) (sym (cond-false (ltb size (length s)) _ _ q)) (whole_suffix s))
+    (cases_Bool (ltb size (length s))))
 
 within : (widest : ℕ) (file : List ℕ) → Within file (opened widest file)
 within widest file =
-    within-then _ _ _ (magic-within file) (λ _ s.
-    within-then _ _ _ (gap-within s) (λ _ s.
-    within-then _ _ _ (number-within widest s) (λ w s.
-    within-then _ _ _ (gap-within s) (λ _ s.
-    within-then _ _ _ (number-within most-side s) (λ h s.
-    within-then _ _ _ (white-within s) (λ _ s.
-    rows-within w h s))))))
+    within_then _ _ _ (magic_within file) (λ _ s.
+    within_then _ _ _ (gap_within s) (λ _ s.
+    within_then _ _ _ (number_within widest s) (λ w s.
+    within_then _ _ _ (gap_within s) (λ _ s.
+    within_then _ _ _ (number_within most_side s) (λ h s.
+    within_then _ _ _ (white_within s) (λ _ s.
+    rows_within w h s))))))
 
 -- ---- fronts of a file
 -- where a longer file is refused within what it has more, or is opened, its front ends too early
-cut : {A : Type 0} (s back : List ℕ) (r r′ : Read A) (why : PictureRefusal) (t : List ℕ) → Past back r r′ → Within s r → r′ ≡ fault why t → length t < length back → r ≡ fault EndsEarly []
-cut s back (got x u) r′ why t p w e lt =
+cut : {A : Type 0} (s back : List ℕ) (r r' : Read A) (why : PictureRefusal) (t : List ℕ) → Past back r r' → Within s r → r' ≡ fault why t → length t < length back → r ≡ fault EndsEarly []
+cut s back (got x u) r' why t p w e lt =
     let f = sym (p (omega arith)) ∙ e in
     let same : back ≡ t = cc in
     absurd (omega (arith, ap length same))
-cut s back (fault other-why u) r′ why t p w e lt =
-    ⊎-elim
-    (λ is. (λ i. fault (is i) (w .at-end is i)))
+cut s back (fault other-why u) r' why t p w e lt =
+    ⊎_elim
+    (λ is. (λ i. fault (is i) (w.at_end is i)))
     (λ never.
     let f = sym (p never) ∙ e in
     let same : u ++ back ≡ t = cc in
     absurd (omega (arith, simp length-append at (ap length same))))
-    (too-early-or-not other-why)
+    (too_early_or_not other-why)
 
-cut-opened : {A : Type 0} (s back : List ℕ) (r r′ : Read A) (x : A) (t : List ℕ) → Past back r r′ → Within s r → r′ ≡ got x t → 0 < length back → r ≡ fault EndsEarly []
-cut-opened s back (got y u) r′ x t p w e lt = let f = sym (p lt) ∙ e in let z : _≡_ {A = ℕ} 0 1 = cc in absurd (omega arith)
-cut-opened s back (fault why u) r′ x t p w e lt =
-    ⊎-elim
-    (λ is. (λ i. fault (is i) (w .at-end is i)))
-    (λ never. let f = sym (p never) ∙ e in let z : _≡_ {A = ℕ} 0 1 = cc in absurd (omega arith))
-    (too-early-or-not why)
+cut_opened : {A : Type 0} (s back : List ℕ) (r r' : Read A) (x : A) (t : List ℕ) → Past back r r' → Within s r → r' ≡ got x t → 0 < length back → r ≡ fault EndsEarly []
+cut_opened s back (got y u) r' x t p w e lt = let f = sym (p lt) ∙ e in let z : ◌≡◌ {A = ℕ} 0 1 = cc in absurd (omega arith)
+cut_opened s back (fault why u) r' x t p w e lt =
+    ⊎_elim
+    (λ is. (λ i. fault (is i) (w.at_end is i)))
+    (λ never. let f = sym (p never) ∙ e in let z : ◌≡◌ {A = ℕ} 0 1 = cc in absurd (omega arith))
+    (too_early_or_not why)
 
 -- ---- a file and its answer
 module _ (widest : ℕ) (file : List ℕ) where
   placed : (why : PictureRefusal) (t : List ℕ) → opened widest file ≡ fault why t → Placed file why t
   placed why t e = subst (Within {A = ℕ × ℕ} file) e (within widest file)
 
-  pub left-within : (why : PictureRefusal) (t : List ℕ) → opened widest file ≡ fault why t → length t ≤ length file
-  left-within why t e = suffix-length (placed why t e .suffix)
+  pub left_within : (why : PictureRefusal) (t : List ℕ) → opened widest file ≡ fault why t → length t ≤ length file
+  left_within why t e = suffix_length (placed why t e).suffix
 
   -- the place of a fault is the number of bytes before those that are left
-  pub fault-at : (why : PictureRefusal) (t : List ℕ) → opened widest file ≡ fault why t → FaultAt widest file why (length file - length t)
-  fault-at why t e =
-      let p = placed why t e .suffix in
-      let before : length file - length t ≡ length (p .front) = omega (arith, ap length (p .joins), length-append (p .front) t) in
+  pub fault_at : (why : PictureRefusal) (t : List ℕ) → opened widest file ≡ fault why t → FaultAt widest file why (length file - length t)
+  fault_at why t e =
+      let p = (placed why t e).suffix in
+      let before : length file - length t ≡ length p.front = omega (arith, ap length p.joins, length-append p.front t) in
       record {
         within = omega arith;
-        stops = e ∙ ap (fault why) (sym (drop-append-seam (p .front) t) ∙ (λ i. drop (sym before i) (sym (p .joins) i)));
+        stops = e ∙ ap (fault why) (sym (drop-append_seam p.front t) ∙ (λ i. drop (sym before i) (sym p.joins i)));
       }
 
   -- a front of n bytes that ends too early does so at n
-  front-ends : (n : ℕ) → n < length file → opened widest (take n file) ≡ fault EndsEarly [] → FaultAt widest (take n file) EndsEarly n
-  front-ends n lt e =
+  front_ends : (n : ℕ) → n < length file → opened widest (take n file) ≡ fault EndsEarly [] → FaultAt widest (take n file) EndsEarly n
+  front_ends n lt e =
       let long : length (take n file) ≡ n = length-take-le n file (omega arith) in
-      record { within = omega arith; stops = e ∙ ap (fault EndsEarly) (sym (drop-all n (take n file) (omega arith))) }
+      record { within = omega arith; stops = e ∙ ap (fault EndsEarly) (sym (drop_all n (take n file) (omega arith))) }
 
-  past-front : (n : ℕ) → Past (drop n file) (opened widest (take n file)) (opened widest file)
-  past-front n = subst (λ l. Past (drop n file) (opened widest (take n file)) (opened widest l)) (take-append-drop n file) (past widest (drop n file) (take n file))
+  past_front : (n : ℕ) → Past (drop n file) (opened widest (take n file)) (opened widest file)
+  past_front n = subst (λ l. Past (drop n file) (opened widest (take n file)) (opened widest l)) (take-append-drop n file) (past widest (drop n file) (take n file))
 
   pub first-fault : (why : PictureRefusal) (place : ℕ) → FaultAt widest file why place → FirstFault widest file why place
   first-fault why place f =
-      let p = placed why (drop place file) (f .stops) in
+      let p = placed why (drop place file) f.stops in
       let left = length-drop place file in
-      let inside = f .within in
+      let inside = f.within in
       record {
-        at-end = λ e. omega (arith, ap length (p .at-end e));
-        at-byte = λ never. omega (arith, p .at-byte never);
-        none-before = λ n lt. front-ends n (omega arith) (cut (take n file) (drop n file) (opened widest (take n file)) (opened widest file) why (drop place file) (past-front n) (within widest (take n file)) (f .stops) (omega (arith, length-drop n file)));
+        at_end = λ e. omega (arith, ap length (p.at_end e));
+        at_byte = λ never. omega (arith, p.at_byte never);
+        none_before = λ n lt. front_ends n (omega arith) (cut (take n file) (drop n file) (opened widest (take n file)) (opened widest file) why (drop place file) (past_front n) (within widest (take n file)) f.stops (omega (arith, length-drop n file)));
         stays = λ never more. record {
           within = omega (arith, length-append file more);
-          stops = subst (λ r. Past more r (opened widest (file ++ more))) (f .stops) (past widest more file) never ∙ ap (fault why) (sym (drop-append-le place file more inside));
+          stops = subst (λ r. Past more r (opened widest (file ++ more))) f.stops (past widest more file) never ∙ ap (fault why) (sym (drop-append-le place file more inside));
         };
       }
 
   pub whole : (w h : ℕ) (s : List ℕ) → opened widest file ≡ got (w, h) s → Whole widest file
   whole w h s e =
       record {
-        shorter = λ n lt. front-ends n lt (cut-opened (take n file) (drop n file) (opened widest (take n file)) (opened widest file) (w, h) s (past-front n) (within widest (take n file)) e (omega (arith, length-drop n file)));
+        shorter = λ n lt. front_ends n lt (cut_opened (take n file) (drop n file) (opened widest (take n file)) (opened widest file) (w, h) s (past_front n) (within widest (take n file)) e (omega (arith, length-drop n file)));
         longer = λ more further. record {
           within = omega (arith, length-append file more);
-          stops = subst (λ r. Past more r (opened widest (file ++ more))) e (past widest more file) further ∙ ap (fault BytesAfterRows) (sym (drop-append-seam file more));
+          stops = subst (λ r. Past more r (opened widest (file ++ more))) e (past widest more file) further ∙ ap (fault BytesAfterRows) (sym (drop-append_seam file more));
         };
       }

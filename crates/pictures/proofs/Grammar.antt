@@ -1,41 +1,34 @@
 -- A file is opened exactly where the grammar has it, with the w, h and rows of the grammar. Serves the clause `grammar` of `open`.
 -- Assumes nothing.
-use mathlib.Core.Path.{_≡_, refl, sym, ap, subst, _∙_}
-use mathlib.Core.Bool.{Bool, true, false, not, cond, _&&_, _||_}
-use mathlib.Core.List.{List, [], _∷_, _++_, append-assoc}
-use mathlib.Core.Logic.{_⊎_, inl, inr, ⊎-elim}
-use Prim.Native.Nat.{ℕ, _+_, _-_, _*_, _≤_, _<_}
-use native.Mathlib.Omega.{arith}
-use lib.Dec.{leb, ltb, eqb}
-use lib.ListN.{length, drop, length-append}
-use Rattle·std.specs.shelf.Lists.{All}
-use Rattle·std.proofs.shelf.Tests.{cond-true, cond-false, cases-bool, or-cases, or-parts, or-left, or-right, or-from, and-parts, and-from, eqb-true, eqb-false, eq-eqb, ne-eqb, le-leb, lt-leb, leb-true, leb-false, le-ltb, ltb-false}
-use Rattle·std.proofs.shelf.Ways.{tells}
-use Rattle·pictures·specs.Reading.{Read, got, fault, _⟫_, is-white, is-digit, magic, blank, gap, digits, number, white, all-rows, opened, ReadsWider}
-use Rattle·pictures·proofs.Steps.{go}
-use Rattle·pictures·specs.Limits.{most-side, is-side}
-use Rattle·pictures·specs.Rows.{row-bytes, RowsFit}
-use Rattle·pictures·specs.declared.refusals.PictureRefusal.{PictureRefusal}
-use Rattle·pictures·specs.Format.{White, Blank, nothing, white as whiteᵇ, comment, Gap, value-after, Digits, Number, PictureFile, Only, NoPicture}
+use Rattle.std.proofs.Common.{◌≡◌, ℕ, ◌+◌, ◌-◌, ◌*◌, ◌<◌, ◌≤◌, Bool, true, false, cond, not, ◌&&◌, ◌||◌, eqb, ltb, leb, ◌⊎◌, List, [], ◌∷◌, ◌++◌, length, drop, sym, refl, ap, ◌∙◌, subst, inl, inr, ⊎_elim, append_assoc, arith, length-append}
+use Rattle.std.specs.List.{AllByRecursion as All}
+use Rattle.std.proofs.lemmas.Bool.{cond-true, cond-false, cases_Bool, or_cases, or_parts, or_left, or_right, or_from, and_parts, and_from, eqb-true, eqb-false, eq-eqb, ne_eqb, le-leb, lt-leb, leb-true, leb-false, le-ltb, ltb-false}
+use Rattle.std.proofs.lemmas.Bool.Decides.{nat_tests}
+use Rattle.pictures.specs.Reading.{Read, got, fault, ◌⟫◌, is_white, is_digit, magic, blank, gap, digits, number, white, all_rows, opened, ReadsWider}
+use Rattle.pictures.proofs.Steps.{go}
+use Rattle.pictures.specs.Limits.{most_side, is_side}
+use Rattle.pictures.specs.Rows.{row_bytes, RowsFit}
+use Rattle.pictures.specs.declared.refusals.PictureRefusal.{PictureRefusal}
+use Rattle.pictures.specs.Format.{White, Blank, nothing, white as whiteᵇ, comment, Gap, value_after, Digits, Number, PictureFile, Only, NoPicture}
 
 -- tests and facts
-white-from : (b : ℕ) → is-white b ≡ true → White b
-white-from b e = grind (arith, tells)
+white_from : (b : ℕ) → is_white b ≡ true → White b
+white_from b e = grind (arith, nat_tests)
 
-white-to : (b : ℕ) → White b → is-white b ≡ true
-white-to b (inl e) = ap is-white e
-white-to b (inr (inl e)) = ap is-white e
-white-to b (inr (inr (inl e))) = ap is-white e
-white-to b (inr (inr (inr e))) = ap is-white e
+white_to : (b : ℕ) → White b → is_white b ≡ true
+white_to b (inl e) = ap is_white e
+white_to b (inr (inl e)) = ap is_white e
+white_to b (inr (inr (inl e))) = ap is_white e
+white_to b (inr (inr (inr e))) = ap is_white e
 
-digit-from : (b : ℕ) → is-digit b ≡ true → (48 ≤ b) × (b ≤ 57)
-digit-from b e = let p = and-parts _ _ e in (leb-true 48 b (p .0), leb-true b 57 (p .1))
+digit_from : (b : ℕ) → is_digit b ≡ true → (48 ≤ b) × (b ≤ 57)
+digit_from b e = let p = and_parts _ _ e in (leb-true 48 b p.0, leb-true b 57 p.1)
 
-digit-to : (b : ℕ) → (48 ≤ b) × (b ≤ 57) → is-digit b ≡ true
-digit-to b p = and-from _ _ (le-leb 48 b (p .0)) (le-leb b 57 (p .1))
+digit_to : (b : ℕ) → (48 ≤ b) × (b ≤ 57) → is_digit b ≡ true
+digit_to b p = and_from _ _ (le-leb 48 b p.0) (le-leb b 57 p.1)
 
-not-got : {A : Type 0} {why : PictureRefusal} {s : List ℕ} {x : A} {t : List ℕ} → fault why s ≡ got x t → ⊥
-not-got e = let z : _≡_ {A = ℕ} 0 1 = cc in omega arith
+not_got : {A : Type 0} {why : PictureRefusal} {s : List ℕ} {x : A} {t : List ℕ} → fault why s ≡ got x t → ⊥
+not_got e = let z : ◌≡◌ {A = ℕ} 0 1 = cc in omega arith
 
 -- ---- what was blank is blank
 record Skips (s t : List ℕ) : Type 0 where
@@ -51,108 +44,108 @@ record Closes (s t : List ℕ) : Type 0 where
   bytes : s ≡ inside ++ (10 ∷ (front ++ t))
 
 mutual
-  after-skip : (s : List ℕ) (n : Unit {0}) (t : List ℕ) → blank false s ≡ got n t → Skips s t
-  after-skip [] n t e = absurd (not-got e)
-  after-skip (b ∷ s) n t e =
-      ⊎-elim
-      (λ p. let r = after-skip s n t (sym (cond-true _ _ _ p) ∙ e) in record { front = b ∷ r .front; is = whiteᵇ (white-from b p) (r .is); bytes = ap (λ l. b ∷ l) (r .bytes) })
-      (λ p. ⊎-elim
-      (λ q. let r = after-close s n t (sym (cond-false _ _ _ p ∙ cond-true _ _ _ q) ∙ e) in
-      record { front = 35 ∷ (r .inside ++ (10 ∷ r .front)); is = comment (r .inside) (r .free) (r .is); bytes = (λ i. eqb-true b 35 q i ∷ r .bytes i) ∙ ap (λ l. 35 ∷ l) (sym (append-assoc (r .inside) (10 ∷ r .front) t)) })
+  after_skip : (s : List ℕ) (n : Unit {0}) (t : List ℕ) → blank false s ≡ got n t → Skips s t
+  after_skip [] n t e = absurd (not_got e)
+  after_skip (b ∷ s) n t e =
+      ⊎_elim
+      (λ p. let r = after_skip s n t (sym (cond-true _ _ _ p) ∙ e) in record { front = b ∷ r.front; is = whiteᵇ (white_from b p) r.is; bytes = ap (λ l. b ∷ l) r.bytes })
+      (λ p. ⊎_elim
+      (λ q. let r = after_close s n t (sym (cond-false _ _ _ p ∙ cond-true _ _ _ q) ∙ e) in
+      record { front = 35 ∷ (r.inside ++ (10 ∷ r.front)); is = comment r.inside r.free r.is; bytes = (λ i. eqb-true b 35 q i ∷ r.bytes i) ∙ ap (λ l. 35 ∷ l) (sym (append_assoc r.inside (10 ∷ r.front) t)) })
       (λ q. let same : b ∷ s ≡ t = (let f = sym (cond-false _ _ _ p ∙ cond-false _ _ _ q) ∙ e in cc) in record { front = []; is = nothing; bytes = same })
-      (cases-bool (eqb b 35)))
-      (cases-bool (is-white b))
+      (cases_Bool (eqb b 35)))
+      (cases_Bool (is_white b))
 
-  after-close : (s : List ℕ) (n : Unit {0}) (t : List ℕ) → blank true s ≡ got n t → Closes s t
-  after-close [] n t e = absurd (not-got e)
-  after-close (b ∷ s) n t e =
-      ⊎-elim
-      (λ p. let r = after-skip s n t (sym (cond-true _ _ _ p) ∙ e) in
-      record { inside = []; front = r .front; free = tt; is = r .is; bytes = λ i. eqb-true b 10 p i ∷ r .bytes i })
-      (λ p. let r = after-close s n t (sym (cond-false _ _ _ p) ∙ e) in
-      record { inside = b ∷ r .inside; front = r .front; free = (eqb-false b 10 p, r .free); is = r .is; bytes = ap (λ l. b ∷ l) (r .bytes) })
-      (cases-bool (eqb b 10))
+  after_close : (s : List ℕ) (n : Unit {0}) (t : List ℕ) → blank true s ≡ got n t → Closes s t
+  after_close [] n t e = absurd (not_got e)
+  after_close (b ∷ s) n t e =
+      ⊎_elim
+      (λ p. let r = after_skip s n t (sym (cond-true _ _ _ p) ∙ e) in
+      record { inside = []; front = r.front; free = tt; is = r.is; bytes = λ i. eqb-true b 10 p i ∷ r.bytes i })
+      (λ p. let r = after_close s n t (sym (cond-false _ _ _ p) ∙ e) in
+      record { inside = b ∷ r.inside; front = r.front; free = (eqb-false b 10 p, r.free); is = r.is; bytes = ap (λ l. b ∷ l) r.bytes })
+      (cases_Bool (eqb b 10))
 
 -- ---- a gap is not empty: skipping from a byte that begins one goes past that byte
 mutual
-  skip-shorter : (s : List ℕ) (n : Unit {0}) (t : List ℕ) → blank false s ≡ got n t → length t ≤ length s
-  skip-shorter [] n t e = absurd (not-got e)
-  skip-shorter (b ∷ s) n t e =
-      ⊎-elim
-      (λ p. let r = skip-shorter s n t (sym (cond-true _ _ _ p) ∙ e) in omega arith)
-      (λ p. ⊎-elim
-      (λ q. let r = close-shorter s n t (sym (cond-false _ _ _ p ∙ cond-true _ _ _ q) ∙ e) in omega arith)
+  skip_shorter : (s : List ℕ) (n : Unit {0}) (t : List ℕ) → blank false s ≡ got n t → length t ≤ length s
+  skip_shorter [] n t e = absurd (not_got e)
+  skip_shorter (b ∷ s) n t e =
+      ⊎_elim
+      (λ p. let r = skip_shorter s n t (sym (cond-true _ _ _ p) ∙ e) in omega arith)
+      (λ p. ⊎_elim
+      (λ q. let r = close_shorter s n t (sym (cond-false _ _ _ p ∙ cond-true _ _ _ q) ∙ e) in omega arith)
       (λ q. let same : b ∷ s ≡ t = (let f = sym (cond-false _ _ _ p ∙ cond-false _ _ _ q) ∙ e in cc) in omega (arith, ap length same))
-      (cases-bool (eqb b 35)))
-      (cases-bool (is-white b))
+      (cases_Bool (eqb b 35)))
+      (cases_Bool (is_white b))
 
-  close-shorter : (s : List ℕ) (n : Unit {0}) (t : List ℕ) → blank true s ≡ got n t → length t ≤ length s
-  close-shorter [] n t e = absurd (not-got e)
-  close-shorter (b ∷ s) n t e =
-      ⊎-elim
-      (λ p. let r = skip-shorter s n t (sym (cond-true _ _ _ p) ∙ e) in omega arith)
-      (λ p. let r = close-shorter s n t (sym (cond-false _ _ _ p) ∙ e) in omega arith)
-      (cases-bool (eqb b 10))
+  close_shorter : (s : List ℕ) (n : Unit {0}) (t : List ℕ) → blank true s ≡ got n t → length t ≤ length s
+  close_shorter [] n t e = absurd (not_got e)
+  close_shorter (b ∷ s) n t e =
+      ⊎_elim
+      (λ p. let r = skip_shorter s n t (sym (cond-true _ _ _ p) ∙ e) in omega arith)
+      (λ p. let r = close_shorter s n t (sym (cond-false _ _ _ p) ∙ e) in omega arith)
+      (cases_Bool (eqb b 10))
 
-begun-shorter : (b : ℕ) (s : List ℕ) (n : Unit {0}) (t : List ℕ) → (is-white b || eqb b 35) ≡ true → blank false (b ∷ s) ≡ got n t → length t < length (b ∷ s)
-begun-shorter b s n t p e =
-    ⊎-elim
-    (λ q. let r = skip-shorter s n t (sym (cond-true _ _ _ q) ∙ e) in omega arith)
-    (λ q. ⊎-elim
-    (λ x. absurd (let z : _≡_ {A = Bool} true false = sym x ∙ q in let f : _≡_ {A = ℕ} 0 1 = cc in omega arith))
-    (λ x. let r = close-shorter s n t (sym (cond-false _ _ _ q ∙ cond-true _ _ _ x) ∙ e) in omega arith)
-    (or-cases _ _ p))
-    (cases-bool (is-white b))
+begun_shorter : (b : ℕ) (s : List ℕ) (n : Unit {0}) (t : List ℕ) → (is_white b || eqb b 35) ≡ true → blank false (b ∷ s) ≡ got n t → length t < length (b ∷ s)
+begun_shorter b s n t p e =
+    ⊎_elim
+    (λ q. let r = skip_shorter s n t (sym (cond-true _ _ _ q) ∙ e) in omega arith)
+    (λ q. ⊎_elim
+    (λ x. absurd (let z : ◌≡◌ {A = Bool} true false = sym x ∙ q in let f : ◌≡◌ {A = ℕ} 0 1 = cc in omega arith))
+    (λ x. let r = close_shorter s n t (sym (cond-false _ _ _ q ∙ cond-true _ _ _ x) ∙ e) in omega arith)
+    (or_cases _ _ p))
+    (cases_Bool (is_white b))
 
-after-gap : (s : List ℕ) (n : Unit {0}) (t : List ℕ) → gap s ≡ got n t → (g : List ℕ) × Gap g × (s ≡ g ++ t)
-after-gap [] n t e = absurd (not-got e)
-after-gap (b ∷ s) n t e =
-    ⊎-elim
+after_gap : (s : List ℕ) (n : Unit {0}) (t : List ℕ) → gap s ≡ got n t → (g : List ℕ) × Gap g × (s ≡ g ++ t)
+after_gap [] n t e = absurd (not_got e)
+after_gap (b ∷ s) n t e =
+    ⊎_elim
     (λ p.
     let f = sym (cond-true _ _ _ p) ∙ e in
-    let r = after-skip (b ∷ s) n t f in
-    let less = begun-shorter b s n t p f in
-    (r .front, (r .is, omega (arith, simp length-append at (ap length (r .bytes)))), r .bytes))
-    (λ p. absurd (not-got (sym (cond-false _ _ _ p) ∙ e)))
-    (cases-bool (is-white b || eqb b 35))
+    let r = after_skip (b ∷ s) n t f in
+    let less = begun_shorter b s n t p f in
+    (r.front, (r.is, omega (arith, simp length-append at (ap length r.bytes))), r.bytes))
+    (λ p. absurd (not_got (sym (cond-false _ _ _ p) ∙ e)))
+    (cases_Bool (is_white b || eqb b 35))
 
 -- ---- a number's digits
 record Reads (limit n : ℕ) (s : List ℕ) (m : ℕ) (t : List ℕ) : Type 0 where
   front : List ℕ
   is : Digits front
-  value : value-after n front ≡ m
+  value : value_after n front ≡ m
   least : 1 ≤ m
   most : m ≤ limit
   bytes : s ≡ front ++ t
 
-after-digits : (limit : ℕ) (whole : List ℕ) (n : ℕ) (s : List ℕ) (m : ℕ) (t : List ℕ) → digits limit whole n s ≡ got m t → Reads limit n s m t
-after-digits limit whole n [] m t e = absurd (not-got e)
-after-digits limit whole n (b ∷ s) m t e =
-    ⊎-elim
+after_digits : (limit : ℕ) (whole : List ℕ) (n : ℕ) (s : List ℕ) (m : ℕ) (t : List ℕ) → digits limit whole n s ≡ got m t → Reads limit n s m t
+after_digits limit whole n [] m t e = absurd (not_got e)
+after_digits limit whole n (b ∷ s) m t e =
+    ⊎_elim
     (λ p.
-    let r = after-digits limit whole (n * 10 + (b - 48)) s m t (sym (cond-true _ _ _ p) ∙ e) in
-    record { front = b ∷ r .front; is = (digit-from b p, r .is); value = r .value; least = r .least; most = r .most; bytes = ap (λ l. b ∷ l) (r .bytes) })
-    (λ p. ⊎-elim
+    let r = after_digits limit whole (n * 10 + (b - 48)) s m t (sym (cond-true _ _ _ p) ∙ e) in
+    record { front = b ∷ r.front; is = (digit_from b p, r.is); value = r.value; least = r.least; most = r.most; bytes = ap (λ l. b ∷ l) r.bytes })
+    (λ p. ⊎_elim
     (λ q.
     let f = sym (cond-false _ _ _ p ∙ cond-true _ _ _ q) ∙ e in
-    let both = and-parts (leb 1 n) (leb n limit) q in
+    let both = and_parts (leb 1 n) (leb n limit) q in
     let same : n ≡ m = cc in
     let rest : b ∷ s ≡ t = cc in
-    record { front = []; is = tt; value = same; least = omega (arith, leb-true 1 n (both .0)); most = omega (arith, leb-true n limit (both .1)); bytes = rest })
-    (λ q. absurd (not-got (sym (cond-false _ _ _ p ∙ cond-false _ _ _ q) ∙ e)))
-    (cases-bool (is-side limit n)))
-    (cases-bool (is-digit b))
+    record { front = []; is = tt; value = same; least = omega (arith, leb-true 1 n both.0); most = omega (arith, leb-true n limit both.1); bytes = rest })
+    (λ q. absurd (not_got (sym (cond-false _ _ _ p ∙ cond-false _ _ _ q) ∙ e)))
+    (cases_Bool (is_side limit n)))
+    (cases_Bool (is_digit b))
 
-after-number : (limit : ℕ) (s : List ℕ) (m : ℕ) (t : List ℕ) → number limit s ≡ got m t → (d : List ℕ) × Number limit d m × (s ≡ d ++ t)
-after-number limit [] m t e = absurd (not-got e)
-after-number limit (b ∷ s) m t e =
-    ⊎-elim
+after_number : (limit : ℕ) (s : List ℕ) (m : ℕ) (t : List ℕ) → number limit s ≡ got m t → (d : List ℕ) × Number limit d m × (s ≡ d ++ t)
+after_number limit [] m t e = absurd (not_got e)
+after_number limit (b ∷ s) m t e =
+    ⊎_elim
     (λ p.
     let f = sym (cond-true _ _ _ p) ∙ e in
-    let r = after-digits limit (b ∷ s) (0 * 10 + (b - 48)) s m t (sym (cond-true _ _ _ p) ∙ f) in
-    (b ∷ r .front, record { written = omega arith; digits = (digit-from b p, r .is); value = r .value; least = r .least; most = r .most }, ap (λ l. b ∷ l) (r .bytes)))
-    (λ p. absurd (not-got (sym (cond-false _ _ _ p) ∙ e)))
-    (cases-bool (is-digit b))
+    let r = after_digits limit (b ∷ s) (0 * 10 + (b - 48)) s m t (sym (cond-true _ _ _ p) ∙ f) in
+    (b ∷ r.front, record { written = omega arith; digits = (digit_from b p, r.is); value = r.value; least = r.least; most = r.most }, ap (λ l. b ∷ l) r.bytes))
+    (λ p. absurd (not_got (sym (cond-false _ _ _ p) ∙ e)))
+    (cases_Bool (is_digit b))
 
 -- ---- the whole file, from its answer to the grammar
 record Goes {A B : Type 0} (r : Read A) (next : A → List ℕ → Read B) (y : B) (s : List ℕ) : Type 0 where
@@ -163,177 +156,177 @@ record Goes {A B : Type 0} (r : Read A) (next : A → List ℕ → Read B) (y : 
 
 goes : {A B : Type 0} (r : Read A) (next : A → List ℕ → Read B) (y : B) (s : List ℕ) → (r ⟫ next) ≡ got y s → Goes r next y s
 goes (got x t) next y s e = record { x = x; t = t; is = refl; then = e }
-goes (fault why t) next y s e = absurd (not-got e)
+goes (fault why t) next y s e = absurd (not_got e)
 
-after-magic : (s : List ℕ) (n : Unit {0}) (t : List ℕ) → magic s ≡ got n t → s ≡ 80 ∷ 52 ∷ t
-after-magic [] n t e = absurd (not-got e)
-after-magic (a ∷ []) n t e = absurd (not-got e)
-after-magic (a ∷ b ∷ s) n t e =
-    ⊎-elim
+after_magic : (s : List ℕ) (n : Unit {0}) (t : List ℕ) → magic s ≡ got n t → s ≡ 80 ∷ 52 ∷ t
+after_magic [] n t e = absurd (not_got e)
+after_magic (a ∷ []) n t e = absurd (not_got e)
+after_magic (a ∷ b ∷ s) n t e =
+    ⊎_elim
     (λ p.
-    let both = and-parts (eqb a 80) (eqb b 52) p in
+    let both = and_parts (eqb a 80) (eqb b 52) p in
     let f = sym (cond-true _ _ _ p) ∙ e in
     let rest : s ≡ t = cc in
-    λ i. eqb-true a 80 (both .0) i ∷ eqb-true b 52 (both .1) i ∷ rest i)
-    (λ p. absurd (not-got (sym (cond-false _ _ _ p) ∙ e)))
-    (cases-bool (eqb a 80 && eqb b 52))
+    λ i. eqb-true a 80 both.0 i ∷ eqb-true b 52 both.1 i ∷ rest i)
+    (λ p. absurd (not_got (sym (cond-false _ _ _ p) ∙ e)))
+    (cases_Bool (eqb a 80 && eqb b 52))
 
-after-white : (s : List ℕ) (n : Unit {0}) (t : List ℕ) → white s ≡ got n t → (b : ℕ) × White b × (s ≡ b ∷ t)
-after-white [] n t e = absurd (not-got e)
-after-white (b ∷ s) n t e =
-    ⊎-elim
-    (λ p. let f = sym (cond-true _ _ _ p) ∙ e in let rest : s ≡ t = cc in (b, white-from b p, ap (λ l. b ∷ l) rest))
-    (λ p. absurd (not-got (sym (cond-false _ _ _ p) ∙ e)))
-    (cases-bool (is-white b))
+after_white : (s : List ℕ) (n : Unit {0}) (t : List ℕ) → white s ≡ got n t → (b : ℕ) × White b × (s ≡ b ∷ t)
+after_white [] n t e = absurd (not_got e)
+after_white (b ∷ s) n t e =
+    ⊎_elim
+    (λ p. let f = sym (cond-true _ _ _ p) ∙ e in let rest : s ≡ t = cc in (b, white_from b p, ap (λ l. b ∷ l) rest))
+    (λ p. absurd (not_got (sym (cond-false _ _ _ p) ∙ e)))
+    (cases_Bool (is_white b))
 
-after-rows : (w h : ℕ) (s : List ℕ) (w′ h′ : ℕ) (s′ : List ℕ) → all-rows w h s ≡ got (w′, h′) s′ → (w ≡ w′) × (h ≡ h′) × (s ≡ s′) × RowsFit w h s
-after-rows w h s w′ h′ s′ e =
-    ⊎-elim
-    (λ p. absurd (not-got (sym (cond-true _ _ _ p) ∙ e)))
-    (λ p. ⊎-elim
-    (λ q. absurd (not-got (sym (cond-false _ _ _ p ∙ cond-true _ _ _ q) ∙ e)))
+after_rows : (w h : ℕ) (s : List ℕ) (w' h' : ℕ) (s' : List ℕ) → all_rows w h s ≡ got (w', h') s' → (w ≡ w') × (h ≡ h') × (s ≡ s') × RowsFit w h s
+after_rows w h s w' h' s' e =
+    ⊎_elim
+    (λ p. absurd (not_got (sym (cond-true _ _ _ p) ∙ e)))
+    (λ p. ⊎_elim
+    (λ q. absurd (not_got (sym (cond-false _ _ _ p ∙ cond-true _ _ _ q) ∙ e)))
     (λ q.
     let f = sym (cond-false _ _ _ p ∙ cond-false _ _ _ q) ∙ e in
-    let le = ltb-false (length s) (h * row-bytes w) p in
-    let ge = ltb-false (h * row-bytes w) (length s) q in
-    let both : _≡_ {A = ℕ × ℕ} (w, h) (w′, h′) = cc in
-    (ap (λ z. z .0) both, ap (λ z. z .1) both, cc, omega arith))
-    (cases-bool (ltb (h * row-bytes w) (length s))))
-    (cases-bool (ltb (length s) (h * row-bytes w)))
+    let le = ltb-false (length s) (h * row_bytes w) p in
+    let ge = ltb-false (h * row_bytes w) (length s) q in
+    let both : ◌≡◌ {A = ℕ × ℕ} (w, h) (w', h') = cc in
+    (ap (λ z. z.0) both, ap (λ z. z.1) both, cc, omega arith))
+    (cases_Bool (ltb (h * row_bytes w) (length s))))
+    (cases_Bool (ltb (length s) (h * row_bytes w)))
 
 sound : (widest : ℕ) (file : List ℕ) (w h : ℕ) (s : List ℕ) → opened widest file ≡ got (w, h) s → PictureFile widest file w h s
 sound widest file w h s e =
     let m = goes (magic file) _ (w, h) s e in
-    let g₁ = goes (gap (m .t)) _ (w, h) s (m .then) in
-    let nw = goes (number widest (g₁ .t)) _ (w, h) s (g₁ .then) in
-    let g₂ = goes (gap (nw .t)) _ (w, h) s (nw .then) in
-    let nh = goes (number most-side (g₂ .t)) _ (w, h) s (g₂ .then) in
-    let wh = goes (white (nh .t)) _ (w, h) s (nh .then) in
-    let a = after-magic file _ _ (m .is) in
-    let b = after-gap (m .t) _ _ (g₁ .is) in
-    let c = after-number widest (g₁ .t) _ _ (nw .is) in
-    let d = after-gap (nw .t) _ _ (g₂ .is) in
-    let f = after-number most-side (g₂ .t) _ _ (nh .is) in
-    let x = after-white (nh .t) _ _ (wh .is) in
-    let y = after-rows (nw .x) (nh .x) (wh .t) w h s (wh .then) in
+    let g₁ = goes (gap m.t) _ (w, h) s m.then in
+    let nw = goes (number widest g₁.t) _ (w, h) s g₁.then in
+    let g₂ = goes (gap nw.t) _ (w, h) s nw.then in
+    let nh = goes (number most_side g₂.t) _ (w, h) s g₂.then in
+    let wh = goes (white nh.t) _ (w, h) s nh.then in
+    let a = after_magic file _ _ m.is in
+    let b = after_gap m.t _ _ g₁.is in
+    let c = after_number widest g₁.t _ _ nw.is in
+    let d = after_gap nw.t _ _ g₂.is in
+    let f = after_number most_side g₂.t _ _ nh.is in
+    let x = after_white nh.t _ _ wh.is in
+    let y = after_rows nw.x nh.x wh.t w h s wh.then in
     record {
-      gap₁ = b .0;
-      width = c .0;
-      gap₂ = d .0;
-      height = f .0;
-      last = x .0;
-      bytes = a ∙ ap (λ l. 80 ∷ 52 ∷ l) (b .2 ∙ ap (λ l. b .0 ++ l) (c .2 ∙ ap (λ l. c .0 ++ l) (d .2 ∙ ap (λ l. d .0 ++ l) (f .2 ∙ ap (λ l. f .0 ++ l) (x .2 ∙ ap (λ l. x .0 ∷ l) (y .2))))));
-      is-gap₁ = b .1;
-      is-width = subst (Number widest (c .0)) (y .0) (c .1);
-      is-gap₂ = d .1;
-      is-height = subst (Number most-side (f .0)) (y .1) (f .1);
-      is-white = x .1;
-      is-rows = ap length (sym (y .2)) ∙ y .3 ∙ (λ i. y .1 i * row-bytes (y .0 i));
+      gap₁ = b.0;
+      width = c.0;
+      gap₂ = d.0;
+      height = f.0;
+      last = x.0;
+      bytes = a ∙ ap (λ l. 80 ∷ 52 ∷ l) (b.2 ∙ ap (λ l. b.0 ++ l) (c.2 ∙ ap (λ l. c.0 ++ l) (d.2 ∙ ap (λ l. d.0 ++ l) (f.2 ∙ ap (λ l. f.0 ++ l) (x.2 ∙ ap (λ l. x.0 ∷ l) y.2)))));
+      is_gap₁ = b.1;
+      is_width = subst (Number widest c.0) y.0 c.1;
+      is_gap₂ = d.1;
+      is_height = subst (Number most_side f.0) y.1 f.1;
+      is_white = x.1;
+      is_rows = ap length (sym y.2) ∙ y.3 ∙ (λ i. y.1 i * row_bytes (y.0 i));
     }
 
 -- ---- from the grammar to the answer
 -- t goes on with a byte that is not blank
 abbrev Stops : List ℕ → Type 0
 Stops [] = ⊥
-Stops (b ∷ t) = (is-white b ≡ false) × (eqb b 35 ≡ false)
+Stops (b ∷ t) = (is_white b ≡ false) × (eqb b 35 ≡ false)
 
 abbrev Ends : List ℕ → Type 0
 Ends [] = ⊥
-Ends (b ∷ t) = is-digit b ≡ false
+Ends (b ∷ t) = is_digit b ≡ false
 
-stop-here : (t : List ℕ) → Stops t → blank false t ≡ got tt t
-stop-here [] h = absurd h
-stop-here (b ∷ t) h = cond-false _ _ _ (h .0) ∙ cond-false _ _ _ (h .1)
+stop_here : (t : List ℕ) → Stops t → blank false t ≡ got tt t
+stop_here [] h = absurd h
+stop_here (b ∷ t) h = cond-false _ _ _ h.0 ∙ cond-false _ _ _ h.1
 
-through-comment : (c s : List ℕ) → All (λ b. b ≡ 10 → ⊥) c → blank true (c ++ (10 ∷ s)) ≡ blank false s
-through-comment [] s h = refl
-through-comment (b ∷ c) s h = cond-false _ _ _ (ne-eqb b 10 (h .0)) ∙ through-comment c s (h .1)
+through_comment : (c s : List ℕ) → All (λ b. b ≡ 10 → ⊥) c → blank true (c ++ (10 ∷ s)) ≡ blank false s
+through_comment [] s h = refl
+through_comment (b ∷ c) s h = cond-false _ _ _ (ne_eqb b 10 h.0) ∙ through_comment c s h.1
 
-through-blank : {g : List ℕ} → Blank g → (t : List ℕ) → Stops t → blank false (g ++ t) ≡ got tt t
-through-blank nothing t h = stop-here t h
-through-blank (whiteᵇ {b} w r) t h = cond-true _ _ _ (white-to b w) ∙ through-blank r t h
-through-blank (comment c {s} n r) t h = ap (blank true) (append-assoc c (10 ∷ s) t) ∙ through-comment c (s ++ t) n ∙ through-blank r t h
+through_blank : {g : List ℕ} → Blank g → (t : List ℕ) → Stops t → blank false (g ++ t) ≡ got tt t
+through_blank nothing t h = stop_here t h
+through_blank (whiteᵇ {b} w r) t h = cond-true _ _ _ (white_to b w) ∙ through_blank r t h
+through_blank (comment c {s} n r) t h = ap (blank true) (append_assoc c (10 ∷ s) t) ∙ through_comment c (s ++ t) n ∙ through_blank r t h
 
-begins : {g : List ℕ} → Blank g → 0 < length g → (b : ℕ) (s : List ℕ) → g ≡ b ∷ s → (is-white b || eqb b 35) ≡ true
+begins : {g : List ℕ} → Blank g → 0 < length g → (b : ℕ) (s : List ℕ) → g ≡ b ∷ s → (is_white b || eqb b 35) ≡ true
 begins nothing h b s e = absurd (omega arith)
-begins (whiteᵇ {b = a} w r) h b s e = let same : a ≡ b = cc in or-left _ _ (ap is-white (sym same) ∙ white-to a w)
-begins (comment c n r) h b s e = let same : 35 ≡ b = cc in or-right _ _ (eq-eqb b 35 (sym same))
+begins (whiteᵇ {b = a} w r) h b s e = let same : a ≡ b = cc in or_left _ _ (ap is_white (sym same) ∙ white_to a w)
+begins (comment c n r) h b s e = let same : 35 ≡ b = cc in or_right _ _ (eq-eqb b 35 (sym same))
 
-through-gap : (g t : List ℕ) → Gap g → Stops t → gap (g ++ t) ≡ got tt t
-through-gap [] t h st = absurd (omega (arith, h .1))
-through-gap (b ∷ g) t h st = cond-true _ _ _ (begins (h .0) (h .1) b g refl) ∙ through-blank (h .0) t st
+through_gap : (g t : List ℕ) → Gap g → Stops t → gap (g ++ t) ≡ got tt t
+through_gap [] t h st = absurd (omega (arith, h.1))
+through_gap (b ∷ g) t h st = cond-true _ _ _ (begins h.0 h.1 b g refl) ∙ through_blank h.0 t st
 
-through-digits : (limit : ℕ) (whole : List ℕ) (n : ℕ) (d t : List ℕ) → Digits d → Ends t → 1 ≤ value-after n d → value-after n d ≤ limit → digits limit whole n (d ++ t) ≡ got (value-after n d) t
-through-digits limit whole n [] [] ds e l m = absurd e
-through-digits limit whole n [] (b ∷ t) ds e l m = cond-false _ _ _ e ∙ cond-true _ _ _ (and-from _ _ (le-leb 1 n l) (le-leb n limit m))
-through-digits limit whole n (b ∷ d) t ds e l m = cond-true _ _ _ (digit-to b (ds .0)) ∙ through-digits limit whole (n * 10 + (b - 48)) d t (ds .1) e l m
+through_digits : (limit : ℕ) (whole : List ℕ) (n : ℕ) (d t : List ℕ) → Digits d → Ends t → 1 ≤ value_after n d → value_after n d ≤ limit → digits limit whole n (d ++ t) ≡ got (value_after n d) t
+through_digits limit whole n [] [] ds e l m = absurd e
+through_digits limit whole n [] (b ∷ t) ds e l m = cond-false _ _ _ e ∙ cond-true _ _ _ (and_from _ _ (le-leb 1 n l) (le-leb n limit m))
+through_digits limit whole n (b ∷ d) t ds e l m = cond-true _ _ _ (digit_to b ds.0) ∙ through_digits limit whole (n * 10 + (b - 48)) d t ds.1 e l m
 
-through-number : (limit : ℕ) (d : List ℕ) (n : ℕ) (t : List ℕ) → Number limit d n → Ends t → number limit (d ++ t) ≡ got n t
-through-number limit [] n t h e = absurd (omega (arith, h .written))
-through-number limit (b ∷ d) n t h e =
-    let v = h .value in
-    cond-true _ _ _ (digit-to b (h .digits .0)) ∙ through-digits limit (b ∷ (d ++ t)) 0 (b ∷ d) t (h .digits) e (omega (arith, h .least)) (omega (arith, h .most)) ∙ ap (λ k. got k t) v
+through_number : (limit : ℕ) (d : List ℕ) (n : ℕ) (t : List ℕ) → Number limit d n → Ends t → number limit (d ++ t) ≡ got n t
+through_number limit [] n t h e = absurd (omega (arith, h.written))
+through_number limit (b ∷ d) n t h e =
+    let v = h.value in
+    cond-true _ _ _ (digit_to b h.digits.0) ∙ through_digits limit (b ∷ (d ++ t)) 0 (b ∷ d) t h.digits e (omega (arith, h.least)) (omega (arith, h.most)) ∙ ap (λ k. got k t) v
 
 -- what follows a part does not continue it
-digit-stops : (limit : ℕ) (d t : List ℕ) (n : ℕ) → Number limit d n → Stops (d ++ t)
-digit-stops limit [] t n h = absurd (omega (arith, h .written))
-digit-stops limit (b ∷ d) t n h = let in-range = h .digits .0 in (grind (arith, tells), grind (arith, tells))
+digit_stops : (limit : ℕ) (d t : List ℕ) (n : ℕ) → Number limit d n → Stops (d ++ t)
+digit_stops limit [] t n h = absurd (omega (arith, h.written))
+digit_stops limit (b ∷ d) t n h = let in-range = h.digits.0 in (grind (arith, nat_tests), grind (arith, nat_tests))
 
-white-ends : (b : ℕ) → White b → is-digit b ≡ false
-white-ends b (inl e) = ap is-digit e
-white-ends b (inr (inl e)) = ap is-digit e
-white-ends b (inr (inr (inl e))) = ap is-digit e
-white-ends b (inr (inr (inr e))) = ap is-digit e
+white_ends : (b : ℕ) → White b → is_digit b ≡ false
+white_ends b (inl e) = ap is_digit e
+white_ends b (inr (inl e)) = ap is_digit e
+white_ends b (inr (inr (inl e))) = ap is_digit e
+white_ends b (inr (inr (inr e))) = ap is_digit e
 
-gap-ends : {g : List ℕ} → Blank g → 0 < length g → (t : List ℕ) → Ends (g ++ t)
-gap-ends nothing h t = absurd (omega arith)
-gap-ends (whiteᵇ {b} w r) h t = white-ends b w
-gap-ends (comment c n r) h t = refl
+gap_ends : {g : List ℕ} → Blank g → 0 < length g → (t : List ℕ) → Ends (g ++ t)
+gap_ends nothing h t = absurd (omega arith)
+gap_ends (whiteᵇ {b} w r) h t = white_ends b w
+gap_ends (comment c n r) h t = refl
 
-fits : (w h : ℕ) (s : List ℕ) → RowsFit w h s → all-rows w h s ≡ got (w, h) s
-fits w h s e = cond-false _ _ _ (le-ltb (length s) (h * row-bytes w) (omega arith)) ∙ cond-false _ _ _ (le-ltb (h * row-bytes w) (length s) (omega arith))
+fits : (w h : ℕ) (s : List ℕ) → RowsFit w h s → all_rows w h s ≡ got (w, h) s
+fits w h s e = cond-false _ _ _ (le-ltb (length s) (h * row_bytes w) (omega arith)) ∙ cond-false _ _ _ (le-ltb (h * row_bytes w) (length s) (omega arith))
 
 pub complete : (widest : ℕ) (file : List ℕ) (w h : ℕ) (s : List ℕ) → PictureFile widest file w h s → opened widest file ≡ got (w, h) s
 complete widest file w h s p =
-    ap (opened widest) (p .bytes)
-    ∙ go _ (through-gap (p .gap₁) _ (p .is-gap₁) (digit-stops widest (p .width) _ w (p .is-width)))
-    ∙ go _ (through-number widest (p .width) w _ (p .is-width) (gap-ends (p .is-gap₂ .0) (p .is-gap₂ .1) _))
-    ∙ go _ (through-gap (p .gap₂) _ (p .is-gap₂) (digit-stops most-side (p .height) _ h (p .is-height)))
-    ∙ go _ (through-number most-side (p .height) h _ (p .is-height) (white-ends (p .last) (p .is-white)))
-    ∙ go _ (cond-true _ _ _ (white-to (p .last) (p .is-white)))
-    ∙ fits w h s (p .is-rows)
+    ap (opened widest) p.bytes
+    ∙ go _ (through_gap p.gap₁ _ p.is_gap₁ (digit_stops widest p.width _ w p.is_width))
+    ∙ go _ (through_number widest p.width w _ p.is_width (gap_ends p.is_gap₂.0 p.is_gap₂.1 _))
+    ∙ go _ (through_gap p.gap₂ _ p.is_gap₂ (digit_stops most_side p.height _ h p.is_height))
+    ∙ go _ (through_number most_side p.height h _ p.is_height (white_ends p.last p.is_white))
+    ∙ go _ (cond-true _ _ _ (white_to p.last p.is_white))
+    ∙ fits w h s p.is_rows
 
 pub refused : (widest : ℕ) (file : List ℕ) (why : PictureRefusal) (t : List ℕ) → opened widest file ≡ fault why t → NoPicture widest file
-refused widest file why t e w h s p = not-got (sym e ∙ complete widest file w h s p)
+refused widest file why t e w h s p = not_got (sym e ∙ complete widest file w h s p)
 
 pub accepted : (widest : ℕ) (file : List ℕ) (w h : ℕ) (s : List ℕ) → opened widest file ≡ got (w, h) s → Only widest file w h s
-accepted widest file w h s e = record { is = sound widest file w h s e; no-other = λ w′ h′ s′ p. same w′ h′ s′ (sym (complete widest file w′ h′ s′ p) ∙ e) }
+accepted widest file w h s e = record { is = sound widest file w h s e; no_other = λ w' h' s' p. same w' h' s' (sym (complete widest file w' h' s' p) ∙ e) }
   where
-    same : (w′ h′ : ℕ) (s′ : List ℕ) → _≡_ {A = Read (ℕ × ℕ)} (got (w′, h′) s′) (got (w, h) s) → (w′ ≡ w) × (h′ ≡ h) × (s′ ≡ s)
-    same w′ h′ s′ f =
-        let both : _≡_ {A = ℕ × ℕ} (w′, h′) (w, h) = cc in
-        (ap (λ z. z .0) both, ap (λ z. z .1) both, cc)
+    same : (w' h' : ℕ) (s' : List ℕ) → ◌≡◌ {A = Read (ℕ × ℕ)} (got (w', h') s') (got (w, h) s) → (w' ≡ w) × (h' ≡ h) × (s' ≡ s)
+    same w' h' s' f =
+        let both : ◌≡◌ {A = ℕ × ℕ} (w', h') (w, h) = cc in
+        (ap (λ z. z.0) both, ap (λ z. z.1) both, cc)
 
 -- ---- wider limits
-number-wider : (limit more : ℕ) (s : List ℕ) (n : ℕ) → limit ≤ more → Number limit s n → Number more s n
-number-wider limit more s n le p = record { written = p .written; digits = p .digits; value = p .value; least = p .least; most = omega arith }
+number_wider : (limit more : ℕ) (s : List ℕ) (n : ℕ) → limit ≤ more → Number limit s n → Number more s n
+number_wider limit more s n le p = record { written = p.written; digits = p.digits; value = p.value; least = p.least; most = omega arith }
 
-file-wider : (widest wider : ℕ) (file : List ℕ) (w h : ℕ) (s : List ℕ) → widest ≤ wider → PictureFile widest file w h s → PictureFile wider file w h s
-file-wider widest wider file w h s le p =
+file_wider : (widest wider : ℕ) (file : List ℕ) (w h : ℕ) (s : List ℕ) → widest ≤ wider → PictureFile widest file w h s → PictureFile wider file w h s
+file_wider widest wider file w h s le p =
     record {
-      gap₁ = p .gap₁;
-      width = p .width;
-      gap₂ = p .gap₂;
-      height = p .height;
-      last = p .last;
-      bytes = p .bytes;
-      is-gap₁ = p .is-gap₁;
-      is-width = number-wider widest wider (p .width) w le (p .is-width);
-      is-gap₂ = p .is-gap₂;
-      is-height = p .is-height;
-      is-white = p .is-white;
-      is-rows = p .is-rows;
+      gap₁ = p.gap₁;
+      width = p.width;
+      gap₂ = p.gap₂;
+      height = p.height;
+      last = p.last;
+      bytes = p.bytes;
+      is_gap₁ = p.is_gap₁;
+      is_width = number_wider widest wider p.width w le p.is_width;
+      is_gap₂ = p.is_gap₂;
+      is_height = p.is_height;
+      is_white = p.is_white;
+      is_rows = p.is_rows;
     }
 
-pub reads-wider : (widest : ℕ) (file : List ℕ) (w h : ℕ) (s : List ℕ) → PictureFile widest file w h s → ReadsWider widest file w h s
-reads-wider widest file w h s p wider le = complete wider file w h s (file-wider widest wider file w h s le p)
+pub reads_wider : (widest : ℕ) (file : List ℕ) (w h : ℕ) (s : List ℕ) → PictureFile widest file w h s → ReadsWider widest file w h s
+reads_wider widest file w h s p wider le = complete wider file w h s (file_wider widest wider file w h s le p)

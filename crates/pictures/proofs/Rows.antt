@@ -1,22 +1,17 @@
 -- The rows of a picture that was opened are all there. Serves the clause `every_row` of `open`. Assumes nothing.
-use mathlib.Core.Path.{_≡_, sym, ap, _∙_}
-use mathlib.Core.List.{List}
-use Prim.Native.Nat.{ℕ, _+_, _*_, _≤_, _<_}
-use native.Mathlib.Omega.{arith}
-use native.Mathlib.Nat.{mul-le-mul-right, add-mul, one-mul}
-use lib.ListN.{length, drop, length-drop}
-use Rattle·std.proofs.shelf.Lists.{length-take-le}
-use Rattle·std.proofs.shelf.Tests.{cond-true, and-from, lt-ltb, le-leb}
-use Rattle·pictures·specs.Rows.{row-bytes, RowsFit, EveryRow}
+use Rattle.std.proofs.Common.{◌≡◌, ℕ, ◌+◌, ◌*◌, ◌<◌, ◌≤◌, List, length, drop, sym, ap, ◌∙◌, mul-le-mul_right, add-mul, one-mul, arith, length-drop}
+use Rattle.std.proofs.lemmas.List.{length-take-le}
+use Rattle.std.proofs.lemmas.Bool.{cond-true, and_from, lt-ltb, le-leb}
+use Rattle.pictures.specs.Rows.{row_bytes, RowsFit, EveryRow}
 
-row-fits : (w h : ℕ) (s : List ℕ) (y : ℕ) → RowsFit w h s → y < h → y * row-bytes w + row-bytes w ≤ length s
-row-fits w h s y all lt =
-    let most : (y + 1) * row-bytes w ≤ h * row-bytes w = mul-le-mul-right (row-bytes w) (omega arith) in
-    omega (arith, add-mul y 1 (row-bytes w), one-mul (row-bytes w))
+row_fits : (w h : ℕ) (s : List ℕ) (y : ℕ) → RowsFit w h s → y < h → y * row_bytes w + row_bytes w ≤ length s
+row_fits w h s y all lt =
+    let most : (y + 1) * row_bytes w ≤ h * row_bytes w = mul-le-mul_right (row_bytes w) (omega arith) in
+    omega (arith, add-mul y 1 (row_bytes w), one-mul (row_bytes w))
 
 pub every-row : (w h : ℕ) (s : List ℕ) → RowsFit w h s → EveryRow w h s
 every-row w h s all y lt =
-    let fits = row-fits w h s y all lt in (
-      cond-true _ _ _ (and-from _ _ (lt-ltb y h lt) (le-leb _ _ fits)),
-      length-take-le (row-bytes w) (drop (y * row-bytes w) s) (omega (arith, length-drop (y * row-bytes w) s)),
+    let fits = row_fits w h s y all lt in (
+      cond-true _ _ _ (and_from _ _ (lt-ltb y h lt) (le-leb _ _ fits)),
+      length-take-le (row_bytes w) (drop (y * row_bytes w) s) (omega (arith, length-drop (y * row_bytes w) s)),
     )

@@ -1,22 +1,19 @@
 -- What makes a fault the first one from the front, said without the steps of the reading: by what opening answers for shorter and
 -- for longer files. Assumes nothing.
-use mathlib.Core.List.{List, _++_}
-use mathlib.Core.Path.{_≡_}
-use Prim.Native.Nat.{ℕ, _<_}
-use lib.ListN.{length, take}
-use Rattle·pictures·specs.Reading.{FaultAt}
-use Rattle·pictures·specs.declared.refusals.PictureRefusal.{PictureRefusal}
-use Rattle·pictures·specs.declared.refusals.PictureRefusal.the-variants.{EndsEarly, BytesAfterRows}
+use Rattle.std.specs.Prelude.{◌≡◌, ℕ, ◌<◌, List, ◌++◌, length, take, ◌≢◌}
+use Rattle.pictures.specs.Reading.{FaultAt}
+use Rattle.pictures.specs.declared.refusals.PictureRefusal.{PictureRefusal}
+use Rattle.pictures.specs.declared.refusals.PictureRefusal.TheVariants.{EndsEarly, BytesAfterRows}
 
 -- of a file that is refused
 pub record FirstFault (widest : ℕ) (file : List ℕ) (why : PictureRefusal) (place : ℕ) : Type 0 where
   -- "too early" stands at the end of the file, and every other fault at one of its bytes
-  pub at-end : why ≡ EndsEarly → place ≡ length file
-  pub at-byte : (why ≡ EndsEarly → ⊥) → place < length file
+  pub at_end : why ≡ EndsEarly → place ≡ length file
+  pub at_byte : (why ≢ EndsEarly) → place < length file
   -- a front of the file that ends before the place has no fault but that it ends too early
-  pub none-before : (n : ℕ) → n < place → FaultAt widest (take n file) EndsEarly n
+  pub none_before : (n : ℕ) → n < place → FaultAt widest (take n file) EndsEarly n
   -- whatever follows the file does not change a fault other than "too early"
-  pub stays : (why ≡ EndsEarly → ⊥) → (more : List ℕ) → FaultAt widest (file ++ more) why place
+  pub stays : (why ≢ EndsEarly) → (more : List ℕ) → FaultAt widest (file ++ more) why place
 
 -- of a file that is opened: it is refused as soon as it is cut short or goes on
 pub record Whole (widest : ℕ) (file : List ℕ) : Type 0 where

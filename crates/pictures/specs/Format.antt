@@ -1,14 +1,10 @@
 -- The format of a picture file, as a grammar: which bytes are a picture file of w by h points, and which of them are its rows.
 -- It is the raw PBM format of the Netpbm page, without the liberties that its programs take. A picture and a film differ only in
 -- how wide they may be: `widest` is the most points of a row. Assumes nothing.
-use mathlib.Core.List.{List, [], _∷_, _++_}
-use mathlib.Core.Logic.{_⊎_}
-use mathlib.Core.Path.{_≡_}
-use Prim.Native.Nat.{ℕ, _+_, _-_, _*_, _≤_, _<_}
-use lib.ListN.{length}
-use Rattle·std.specs.shelf.Lists.{All}
-use Rattle·pictures·specs.Limits.{most-side}
-use Rattle·pictures·specs.Rows.{RowsFit}
+use Rattle.std.specs.Prelude.{◌≡◌, ℕ, ◌+◌, ◌-◌, ◌*◌, ◌<◌, ◌≤◌, ◌⊎◌, List, [], ◌∷◌, ◌++◌, length, ◌≢◌}
+use Rattle.std.specs.List.{AllByRecursion as All}
+use Rattle.pictures.specs.Limits.{most_side}
+use Rattle.pictures.specs.Rows.{RowsFit}
 
 -- tab, line feed, carriage return and space
 abbrev pub White : ℕ → Type 0
@@ -18,7 +14,7 @@ White b = b ≡ 9 ⊎ b ≡ 10 ⊎ b ≡ 13 ⊎ b ≡ 32
 pub data Blank : List ℕ → Type 0 where
   nothing : Blank []
   white : {b : ℕ} {s : List ℕ} → White b → Blank s → Blank (b ∷ s)
-  comment : (c : List ℕ) {s : List ℕ} → All (λ b. b ≡ 10 → ⊥) c → Blank s → Blank (35 ∷ (c ++ (10 ∷ s)))
+  comment : (c : List ℕ) {s : List ℕ} → All (λ b. b ≢ 10) c → Blank s → Blank (35 ∷ (c ++ (10 ∷ s)))
 
 -- at least one of them
 abbrev pub Gap : List ℕ → Type 0
@@ -28,15 +24,15 @@ abbrev pub Digits : List ℕ → Type 0
 Digits s = All (λ b. (48 ≤ b) × (b ≤ 57)) s
 
 -- the number that the decimal digits s write, where those before them write n
-abbrev pub value-after : ℕ → List ℕ → ℕ
-value-after n [] = n
-value-after n (b ∷ s) = value-after (n * 10 + (b - 48)) s
+abbrev pub value_after : ℕ → List ℕ → ℕ
+value_after n [] = n
+value_after n (b ∷ s) = value_after (n * 10 + (b - 48)) s
 
 -- The digits s, of which there is at least one, write n, which is from 1 to the limit. Leading zeros are allowed.
 pub record Number (limit : ℕ) (s : List ℕ) (n : ℕ) : Type 0 where
   pub written : 0 < length s
   pub digits : Digits s
-  pub value : value-after 0 s ≡ n
+  pub value : value_after 0 s ≡ n
   pub least : 1 ≤ n
   pub most : n ≤ limit
 
@@ -48,17 +44,17 @@ pub record PictureFile (widest : ℕ) (file : List ℕ) (w h : ℕ) (rows : List
   pub height : List ℕ
   pub last : ℕ
   pub bytes : file ≡ 80 ∷ 52 ∷ (gap₁ ++ (width ++ (gap₂ ++ (height ++ (last ∷ rows)))))
-  pub is-gap₁ : Gap gap₁
-  pub is-width : Number widest width w
-  pub is-gap₂ : Gap gap₂
-  pub is-height : Number most-side height h
-  pub is-white : White last
-  pub is-rows : RowsFit w h rows
+  pub is_gap₁ : Gap gap₁
+  pub is_width : Number widest width w
+  pub is_gap₂ : Gap gap₂
+  pub is_height : Number most_side height h
+  pub is_white : White last
+  pub is_rows : RowsFit w h rows
 
 -- The file is a picture of w by h points with these rows, and no other picture.
 pub record Only (widest : ℕ) (file : List ℕ) (w h : ℕ) (rows : List ℕ) : Type 0 where
   pub is : PictureFile widest file w h rows
-  pub no-other : (w′ h′ : ℕ) (rows′ : List ℕ) → PictureFile widest file w′ h′ rows′ → (w′ ≡ w) × (h′ ≡ h) × (rows′ ≡ rows)
+  pub no_other : (w' h' : ℕ) (rows' : List ℕ) → PictureFile widest file w' h' rows' → (w' ≡ w) × (h' ≡ h) × (rows' ≡ rows)
 
 -- The file is no picture.
 abbrev pub NoPicture : (widest : ℕ) (file : List ℕ) → Type 0

@@ -1,16 +1,14 @@
 -- How long the sides of a picture file may be. Assumes nothing.
-use mathlib.Core.Bool.{Bool, _&&_}
-use Prim.Native.Nat.{ℕ}
-use lib.Dec.{leb}
+use Rattle.std.specs.Prelude.{ℕ, Bool, ◌&&◌, nat_le}
 
 -- the most points of a side of a picture, and the most rows of a film
-abbrev pub most-side : ℕ
-most-side = 4096
+abbrev pub most_side : ℕ
+most_side = 4096
 
 -- the most squares of a row of a film
-abbrev pub most-squares : ℕ
-most-squares = 32768
+abbrev pub most_squares : ℕ
+most_squares = 32768
 
 -- n is from 1 to the limit
-abbrev pub is-side : (limit n : ℕ) → Bool
-is-side limit n = leb 1 n && leb n limit
+abbrev pub is_side : (limit n : ℕ) → Bool
+is_side limit n = nat_le 1 n && nat_le n limit

@@ -1,17 +1,12 @@
 -- What opening a picture file answers, for every list of bytes: the file is read from the front, part by part, up to the first
 -- fault. `widest` is the most points of a row. Assumes nothing.
-use mathlib.Core.Bool.{Bool, true, false, cond, _&&_, _||_}
-use mathlib.Core.List.{List, [], _∷_}
-use mathlib.Core.Path.{_≡_}
-use Prim.Native.Nat.{ℕ, _+_, _-_, _*_, _≤_}
-use lib.Dec.{leb, ltb, eqb}
-use lib.ListN.{length, drop}
-use Rattle·pictures·specs.Limits.{most-side, is-side}
-use Rattle·pictures·specs.Rows.{row-bytes}
-use Rattle·pictures·specs.declared.refusals.PictureRefusal.{PictureRefusal}
-use Rattle·pictures·specs.declared.refusals.PictureRefusal.the-variants.{WrongMagic, WrongByte, NumberOutside, EndsEarly, BytesAfterRows}
+use Rattle.std.specs.Prelude.{◌≡◌, ℕ, ◌+◌, ◌-◌, ◌*◌, ◌≤◌, Bool, true, false, cond, ◌&&◌, ◌||◌, List, [], ◌∷◌, length, drop, ◌==◌, nat_le, nat_lt}
+use Rattle.pictures.specs.Limits.{most_side, is_side}
+use Rattle.pictures.specs.Rows.{row_bytes}
+use Rattle.pictures.specs.declared.refusals.PictureRefusal.{PictureRefusal}
+use Rattle.pictures.specs.declared.refusals.PictureRefusal.TheVariants.{WrongMagic, WrongByte, NumberOutside, EndsEarly, BytesAfterRows}
 
-infixr 5 _⟫_
+infixr 5 ◌⟫◌
 -- A part is read from the front of the bytes that are left: its value and the bytes after it, or a refusal and the bytes from its
 -- place on.
 pub data Read (A : Type 0) : Type 0 where
@@ -19,55 +14,55 @@ pub data Read (A : Type 0) : Type 0 where
   fault : PictureRefusal → List ℕ → Read A
 
 -- and then the next part from the bytes after it
-abbrev pub _⟫_ : {A B : Type 0} → Read A → (A → List ℕ → Read B) → Read B
+abbrev pub ◌⟫◌ : {A B : Type 0} → Read A → (A → List ℕ → Read B) → Read B
 got x s ⟫ next = next x s
 fault why s ⟫ next = fault why s
 
-abbrev pub is-white : ℕ → Bool
-is-white b = eqb b 9 || eqb b 10 || eqb b 13 || eqb b 32
+abbrev pub is_white : ℕ → Bool
+is_white b = b == 9 || b == 10 || b == 13 || b == 32
 
-abbrev pub is-digit : ℕ → Bool
-is-digit b = leb 48 b && leb b 57
+abbrev pub is_digit : ℕ → Bool
+is_digit b = nat_le 48 b && nat_le b 57
 
 -- the bytes 80 and 52
 abbrev pub magic : List ℕ → Read (Unit {0})
 magic [] = fault EndsEarly []
 magic (a ∷ []) = fault EndsEarly []
-magic (a ∷ b ∷ s) = cond (eqb a 80 && eqb b 52) (got tt s) (fault WrongMagic (a ∷ b ∷ s))
+magic (a ∷ b ∷ s) = cond (a == 80 && b == 52) (got tt s) (fault WrongMagic (a ∷ b ∷ s))
 
 -- past white bytes and comments, from within a comment (`true`), which goes on through the next byte 10, or from outside
 abbrev pub blank : Bool → List ℕ → Read (Unit {0})
 blank within [] = fault EndsEarly []
-blank true (b ∷ s) = cond (eqb b 10) (blank false s) (blank true s)
-blank false (b ∷ s) = cond (is-white b) (blank false s) (cond (eqb b 35) (blank true s) (got tt (b ∷ s)))
+blank true (b ∷ s) = cond (b == 10) (blank false s) (blank true s)
+blank false (b ∷ s) = cond (is_white b) (blank false s) (cond (b == 35) (blank true s) (got tt (b ∷ s)))
 
 -- white bytes and comments, at least one
 abbrev pub gap : List ℕ → Read (Unit {0})
 gap [] = fault EndsEarly []
-gap (b ∷ s) = cond (is-white b || eqb b 35) (blank false (b ∷ s)) (fault WrongByte (b ∷ s))
+gap (b ∷ s) = cond (is_white b || b == 35) (blank false (b ∷ s)) (fault WrongByte (b ∷ s))
 
 -- further digits of a number that is n so far; `whole` are the bytes from its first digit on
 abbrev pub digits : (limit : ℕ) (whole : List ℕ) (n : ℕ) → List ℕ → Read ℕ
 digits limit whole n [] = fault EndsEarly []
 digits limit whole n (b ∷ s) =
-    cond (is-digit b) (digits limit whole (n * 10 + (b - 48)) s)
-    (cond (is-side limit n) (got n (b ∷ s)) (fault NumberOutside whole))
+    cond (is_digit b) (digits limit whole (n * 10 + (b - 48)) s)
+    (cond (is_side limit n) (got n (b ∷ s)) (fault NumberOutside whole))
 
 -- a number from 1 to the limit
 abbrev pub number : (limit : ℕ) → List ℕ → Read ℕ
 number limit [] = fault EndsEarly []
-number limit (b ∷ s) = cond (is-digit b) (digits limit (b ∷ s) 0 (b ∷ s)) (fault WrongByte (b ∷ s))
+number limit (b ∷ s) = cond (is_digit b) (digits limit (b ∷ s) 0 (b ∷ s)) (fault WrongByte (b ∷ s))
 
 -- one white byte
 abbrev pub white : List ℕ → Read (Unit {0})
 white [] = fault EndsEarly []
-white (b ∷ s) = cond (is-white b) (got tt s) (fault WrongByte (b ∷ s))
+white (b ∷ s) = cond (is_white b) (got tt s) (fault WrongByte (b ∷ s))
 
 -- the rows, and nothing after them
-abbrev pub all-rows : ℕ → ℕ → List ℕ → Read (ℕ × ℕ)
-all-rows w h s =
-    cond (ltb (length s) (h * row-bytes w)) (fault EndsEarly [])
-    (cond (ltb (h * row-bytes w) (length s)) (fault BytesAfterRows (drop (h * row-bytes w) s)) (got (w, h) s))
+abbrev pub all_rows : ℕ → ℕ → List ℕ → Read (ℕ × ℕ)
+all_rows w h s =
+    cond (nat_lt (length s) (h * row_bytes w)) (fault EndsEarly [])
+    (cond (nat_lt (h * row_bytes w) (length s)) (fault BytesAfterRows (drop (h * row_bytes w) s)) (got (w, h) s))
 
 -- the width and the height, followed by the rows
 abbrev pub opened : (widest : ℕ) (file : List ℕ) → Read (ℕ × ℕ)
@@ -76,9 +71,9 @@ opened widest file =
     gap s ⟫ λ _ s.
     number widest s ⟫ λ w s.
     gap s ⟫ λ _ s.
-    number most-side s ⟫ λ h s.
+    number most_side s ⟫ λ h s.
     white s ⟫ λ _ s.
-    all-rows w h s
+    all_rows w h s
 
 -- Opening the file is refused, and `place` bytes stand before the fault.
 pub record FaultAt (widest : ℕ) (file : List ℕ) (why : PictureRefusal) (place : ℕ) : Type 0 where

@@ -1,15 +1,10 @@
 // The head of a picture file, written into a buffer. It rests on the refusals.
-ghost use mathlib.Core.Path.{_≡_};
-ghost use Prim.Native.Nat.{ℕ, _+_, _≤_};
-ghost use mathlib.Core.List.{List, _++_};
-ghost use lib.ListN.{length, take};
-ghost use Rattle·std.specs.Results.{Cases};
-ghost use Rattle·std.specs.Written.{decimal};
-ghost use Rattle·pictures·specs.Rows.{RowsFit};
-ghost use Rattle·pictures·specs.Reading.{got, opened};
-ghost use Rattle·pictures·specs.Head.{head-of, over-front, heading};
-use crate::limits::LONGEST_SIDE;
-use crate::limits::WIDEST_FILM;
+ghost use Rattle.std.specs.Prelude.{◌≡◌, ℕ, ◌+◌, ◌≤◌, List, ◌++◌, length, take, decimal, OnOk};
+ghost use Rattle.pictures.specs.Rows.{RowsFit};
+ghost use Rattle.pictures.specs.Reading.{got, opened};
+ghost use Rattle.pictures.specs.Head.{head_of, over_front, heading};
+
+use crate::limits::{LONGEST_SIDE, WIDEST_FILM};
 use crate::refusals::HeadRefusal;
 
 // The least number of two digits.
@@ -20,8 +15,8 @@ const MAGIC_LINE: [u8; 3] = *b"P4\n";
 
 // How many decimal digits `n` has.
 fn decimal_len(n: u32) -> usize
-    ensures is { λ r. ⌜ r ≡ length (decimal n) ⌝ }
-    ensures bound { λ r. ⌜ r ≤ 10 ⌝ }
+    ensures is { result ≡ length (decimal n) }
+    ensures bound { result ≤ 10 }
 {
     if n < TWO_DIGITS {
         1
@@ -32,9 +27,9 @@ fn decimal_len(n: u32) -> usize
 
 // Writes the decimal digits of `n` at `at`, and answers the place after them.
 fn put_decimal(buf: &mut [u8], at: usize, n: u32) -> usize
-    requires { ⌜ at + length (decimal n) ≤ length (now buf) ⌝ }
-    ensures after { λ r. ⌜ r ≡ at + length (decimal n) ⌝ }
-    ensures written { λ _. ⌜ now (buf .exit) ≡ over-front (take at (now (buf .entry)) ++ decimal n) (now (buf .entry)) ⌝ }
+    requires { at + length (decimal n) ≤ length buf.old }
+    ensures after { result ≡ at + length (decimal n) }
+    ensures written { buf.new ≡ over_front (take at buf.old ++ decimal n) buf.old }
 {
     let mut place = at;
     if n >= TWO_DIGITS {
@@ -48,9 +43,9 @@ fn put_decimal(buf: &mut [u8], at: usize, n: u32) -> usize
 // `Size` is answered of a width outside 1 to 32768 or a height outside 1 to 4096, and `BufferShort` of a buffer that is shorter
 // than the head; then all of `buf` stays.
 pub fn head(buf: &mut [u8], w: u32, h: u32) -> Result<usize, HeadRefusal>
-    ensures answers { λ r. ⌜ r ≡ heading w h (now (buf .entry)) .answer ⌝ }
-    ensures leaves { λ _. ⌜ now (buf .exit) ≡ heading w h (now (buf .entry)) .leaves ⌝ }
-    ensures opens { λ r. ⌜ Cases r (λ _. (widest : ℕ) → w ≤ widest → (s : List ℕ) → RowsFit w h s → opened widest (head-of w h ++ s) ≡ got (w, h) s) (λ _. Unit {0}) ⌝ }
+    ensures answers { result ≡ (heading w h buf.old).answer }
+    ensures leaves { buf.new ≡ (heading w h buf.old).leaves }
+    ensures opens { OnOk result ((widest : ℕ) → w ≤ widest → (s : List ℕ) → RowsFit w h s → opened widest (head_of w h ++ s) ≡ got (w, h) s) }
 {
     if w < 1 || w > WIDEST_FILM || h < 1 || h > LONGEST_SIDE {
         return Err(HeadRefusal::Size);

@@ -7,11 +7,5 @@ mod pictures;
 mod refusals;
 
 pub use heads::head;
-pub use pictures::Picture;
-pub use pictures::open;
-pub use pictures::open_film;
-pub use refusals::HeadRefusal;
-pub use refusals::HeadRefusalDisplay;
-pub use refusals::PictureFault;
-pub use refusals::PictureFaultDisplay;
-pub use refusals::PictureRefusal;
+pub use pictures::{Picture, open, open_film};
+pub use refusals::{HeadRefusal, PictureFault, PictureRefusal};

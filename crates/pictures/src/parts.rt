@@ -1,12 +1,10 @@
 // The readers of the parts of a picture file. Each takes the bytes that are left and answers those after its part.
 // It rests on the refusals.
-ghost use mathlib.Core.Path.{_≡_};
-ghost use Prim.Native.Nat.{ℕ, _≤_};
-ghost use lib.ListN.{length};
-ghost use Rattle·std.specs.Results.{Cases};
-ghost use Rattle·pictures·specs.Limits.{most-squares};
-ghost use Rattle·pictures·specs.Parts.{Stopped};
-ghost use Rattle·pictures·specs.Reading.{got, is-white, is-digit, magic, gap, number, white};
+ghost use Rattle.std.specs.Prelude.{◌≡◌, ℕ, ◌≤◌, length, MatchResult};
+ghost use Rattle.pictures.specs.Limits.{most_squares};
+ghost use Rattle.pictures.specs.Parts.{Stopped};
+ghost use Rattle.pictures.specs.Reading.{got, is_white, is_digit, magic, gap, number, white};
+
 use crate::refusals::PictureRefusal;
 
 // Why the reading stopped, and how many bytes of the file stand from there on.
@@ -25,7 +23,7 @@ pub(crate) const FILE_END: Stop = Stop {
 impl Stop {
     // The reading stopped at the first of these bytes.
     pub(crate) fn before(bytes: &[u8], refusal: PictureRefusal) -> Stop
-        ensures is { λ r. ⌜ (r .refusal ≡ refusal) × (r .left ≡ length (now (bytes .entry))) ⌝ }
+        ensures is { (result.refusal ≡ refusal) × (result.left ≡ length bytes.now) }
     {
         Stop {
             refusal,
@@ -35,20 +33,20 @@ impl Stop {
 }
 
 fn is_white(b: u8) -> bool
-    ensures { λ r. ⌜ r ≡ is-white b ⌝ }
+    ensures { result ≡ is_white b }
 {
     matches!(b, b'\t' | b'\n' | b'\r' | b' ')
 }
 
 fn is_digit(b: u8) -> bool
-    ensures { λ r. ⌜ r ≡ is-digit b ⌝ }
+    ensures { result ≡ is_digit b }
 {
     matches!(b, b'0'..=b'9')
 }
 
 // Past the bytes 80 and 52.
 pub(crate) fn skip_magic(file: &[u8]) -> Result<&[u8], Stop>
-    ensures { λ r. ⌜ Cases r (λ s. magic (now (file .entry)) ≡ got tt (now s)) (λ e. Stopped (magic (now (file .entry))) (e .refusal) (e .left)) ⌝ }
+    ensures { MatchResult result (λ s. magic file.now ≡ got tt s.now) (λ e. Stopped (magic file.now) e.refusal e.left) }
 {
     let [80, 52, rest @ ..] = file else {
         if file.len() < 2 {
@@ -61,7 +59,7 @@ pub(crate) fn skip_magic(file: &[u8]) -> Result<&[u8], Stop>
 
 // Past white bytes and comments, at least one.
 pub(crate) fn skip_gap(bytes: &[u8]) -> Result<&[u8], Stop>
-    ensures { λ r. ⌜ Cases r (λ s. gap (now (bytes .entry)) ≡ got tt (now s)) (λ e. Stopped (gap (now (bytes .entry))) (e .refusal) (e .left)) ⌝ }
+    ensures { MatchResult result (λ s. gap bytes.now ≡ got tt s.now) (λ e. Stopped (gap bytes.now) e.refusal e.left) }
 {
     let [first, ..] = bytes else {
         return Err(FILE_END);
@@ -85,8 +83,8 @@ pub(crate) fn skip_gap(bytes: &[u8]) -> Result<&[u8], Stop>
 
 // A number from 1 to the limit, with the bytes after its digits.
 pub(crate) fn read_number(bytes: &[u8], limit: u32) -> Result<(u32, &[u8]), Stop>
-    requires { ⌜ limit ≤ most-squares ⌝ }
-    ensures { λ r. ⌜ Cases r (λ x. (x .0 ≤ limit) × (number limit (now (bytes .entry)) ≡ got (x .0) (now (x .1)))) (λ e. Stopped (number limit (now (bytes .entry))) (e .refusal) (e .left)) ⌝ }
+    requires { limit ≤ most_squares }
+    ensures { MatchResult result (λ x. (x.0 ≤ limit) × (number limit bytes.now ≡ got x.0 x.1.now)) (λ e. Stopped (number limit bytes.now) e.refusal e.left) }
 {
     let [first, ..] = bytes else {
         return Err(FILE_END);
@@ -110,7 +108,7 @@ pub(crate) fn read_number(bytes: &[u8], limit: u32) -> Result<(u32, &[u8]), Stop
 
 // Past one white byte.
 pub(crate) fn skip_white(bytes: &[u8]) -> Result<&[u8], Stop>
-    ensures { λ r. ⌜ Cases r (λ s. white (now (bytes .entry)) ≡ got tt (now s)) (λ e. Stopped (white (now (bytes .entry))) (e .refusal) (e .left)) ⌝ }
+    ensures { MatchResult result (λ s. white bytes.now ≡ got tt s.now) (λ e. Stopped (white bytes.now) e.refusal e.left) }
 {
     let [first, rest @ ..] = bytes else {
         return Err(FILE_END);

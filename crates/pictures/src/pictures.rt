@@ -1,25 +1,16 @@
 // Opening a picture file, and its rows. It rests on the readers of the parts.
-ghost use mathlib.Core.Path.{_≡_};
-ghost use Prim.Native.Nat.{ℕ, _^_, _≤_, _<_};
-ghost use Rattle·std.specs.Results.{Cases};
-ghost use Rattle·std.specs.declared.option.Option.the-variants.{Some, None};
-ghost use Rattle·pictures·specs.declared.refusals.PictureRefusal.the-variants.{NoSuchRow};
-ghost use Rattle·pictures·specs.Limits.{most-side, most-squares};
-ghost use Rattle·pictures·specs.Rows.{row-bytes, row-of, EveryRow};
-ghost use Rattle·pictures·specs.Format.{Only, NoPicture};
-ghost use Rattle·pictures·specs.Parts.{Stopped};
-ghost use Rattle·pictures·specs.Reading.{got, opened, FaultAt, ReadsWider};
-ghost use Rattle·pictures·specs.FirstFault.{FirstFault, Whole};
-use crate::limits::LONGEST_SIDE;
-use crate::limits::WIDEST_FILM;
-use crate::parts::FILE_END;
-use crate::parts::Stop;
-use crate::parts::read_number;
-use crate::parts::skip_gap;
-use crate::parts::skip_magic;
-use crate::parts::skip_white;
-use crate::refusals::PictureFault;
-use crate::refusals::PictureRefusal;
+ghost use Rattle.std.specs.Prelude.{◌≡◌, ℕ, ◌^◌, ◌<◌, ◌≤◌, IfOk, IfErr, Some, None, MatchResult};
+ghost use Rattle.pictures.specs.declared.refusals.PictureRefusal.TheVariants.{NoSuchRow};
+ghost use Rattle.pictures.specs.Limits.{most_side, most_squares};
+ghost use Rattle.pictures.specs.Rows.{row_bytes, row_of, EveryRow};
+ghost use Rattle.pictures.specs.Format.{Only, NoPicture};
+ghost use Rattle.pictures.specs.Parts.{Stopped};
+ghost use Rattle.pictures.specs.Reading.{got, opened, FaultAt, ReadsWider};
+ghost use Rattle.pictures.specs.FirstFault.{FirstFault, Whole};
+
+use crate::limits::{LONGEST_SIDE, WIDEST_FILM};
+use crate::parts::{FILE_END, Stop, read_number, skip_gap, skip_magic, skip_white};
+use crate::refusals::{PictureFault, PictureRefusal};
 
 // A picture file or a film that was opened. Its rows are a part of the file.
 #[derive(Clone, Copy)]
@@ -31,8 +22,8 @@ pub struct Picture<'a> {
 
 // The bytes of a row of `w` points.
 fn row_bytes(w: u32) -> usize
-    ensures is { λ r. ⌜ r ≡ row-bytes w ⌝ }
-    ensures bound { λ r. ⌜ r ≤ 2 ^ 29 ⌝ }
+    ensures is { result ≡ row_bytes w }
+    ensures bound { result ≤ 2 ^ 29 }
 {
     w.div_ceil(8) as usize
 }
@@ -40,21 +31,21 @@ fn row_bytes(w: u32) -> usize
 impl<'a> Picture<'a> {
     // The points of a row, from 1 to 4096, or of a film to 32768.
     pub fn width(&self) -> u32
-        ensures is { λ r. ⌜ r ≡ now (self .entry) .width ⌝ }
+        ensures is { result ≡ self.now.width }
     {
         self.width
     }
 
     // The number of rows, from 1 to 4096.
     pub fn height(&self) -> u32
-        ensures is { λ r. ⌜ r ≡ now (self .entry) .height ⌝ }
+        ensures is { result ≡ self.now.height }
     {
         self.height
     }
 
     // The bytes of all rows, from the first to the last.
     pub fn rows(&self) -> &'a [u8]
-        ensures is { λ r. ⌜ now r ≡ now (now (self .entry) .rows) ⌝ }
+        ensures is { result.now ≡ self.now.rows.now }
     {
         self.rows
     }
@@ -62,8 +53,8 @@ impl<'a> Picture<'a> {
     // Row `y`, from 0, as a part of the file: the width divided by 8 and rounded up in bytes, highest bit first, 1 for black.
     // Every row below the height is there; from the height on `NoSuchRow` is answered, at place 0.
     pub fn row(&self, y: u32) -> Result<&'a [u8], PictureFault>
-        ensures answers { λ r. ⌜ Cases r (λ s. row-of (now (self .entry) .width) (now (self .entry) .height) (now (now (self .entry) .rows)) y ≡ Some (now s)) (λ _. row-of (now (self .entry) .width) (now (self .entry) .height) (now (now (self .entry) .rows)) y ≡ None) ⌝ }
-        ensures refuses { λ r. ⌜ Cases r (λ _. Unit {0}) (λ e. (e .refusal ≡ NoSuchRow) × (e .place ≡ 0)) ⌝ }
+        ensures answers { MatchResult result (λ s. row_of self.now.width self.now.height self.now.rows.now y ≡ Some s.now) (λ _. row_of self.now.width self.now.height self.now.rows.now y ≡ None) }
+        ensures refuses { IfErr result (λ e. (e.refusal ≡ NoSuchRow) × (e.place ≡ 0)) }
     {
         let size = row_bytes(self.width);
         let from = y as usize * size;
@@ -82,11 +73,11 @@ impl<'a> Picture<'a> {
 // Else the first fault from the front is answered, with the number of bytes before it: `WrongMagic` at 0, `WrongByte` at that byte,
 // `NumberOutside` at the number's first digit, `EndsEarly` at the file's end, or `BytesAfterRows` at the first of them.
 pub fn open(file: &[u8]) -> Result<Picture<'_>, PictureFault>
-    ensures answers { λ r. ⌜ Cases r (λ p. opened most-side (now (file .entry)) ≡ got (p .width, p .height) (now (p .rows))) (λ e. FaultAt most-side (now (file .entry)) (e .refusal) (e .place)) ⌝ }
-    ensures grammar { λ r. ⌜ Cases r (λ p. Only most-side (now (file .entry)) (p .width) (p .height) (now (p .rows))) (λ _. NoPicture most-side (now (file .entry))) ⌝ }
-    ensures first_fault { λ r. ⌜ Cases r (λ _. Whole most-side (now (file .entry))) (λ e. FirstFault most-side (now (file .entry)) (e .refusal) (e .place)) ⌝ }
-    ensures every_row { λ r. ⌜ Cases r (λ p. EveryRow (p .width) (p .height) (now (p .rows))) (λ _. Unit {0}) ⌝ }
-    ensures wider { λ r. ⌜ Cases r (λ p. ReadsWider most-side (now (file .entry)) (p .width) (p .height) (now (p .rows))) (λ _. Unit {0}) ⌝ }
+    ensures answers { MatchResult result (λ p. opened most_side file.now ≡ got (p.width, p.height) p.rows.now) (λ e. FaultAt most_side file.now e.refusal e.place) }
+    ensures grammar { MatchResult result (λ p. Only most_side file.now p.width p.height p.rows.now) (λ _. NoPicture most_side file.now) }
+    ensures first_fault { MatchResult result (λ _. Whole most_side file.now) (λ e. FirstFault most_side file.now e.refusal e.place) }
+    ensures every_row { IfOk result (λ p. EveryRow p.width p.height p.rows.now) }
+    ensures wider { IfOk result (λ p. ReadsWider most_side file.now p.width p.height p.rows.now) }
 {
     open_within(file, LONGEST_SIDE)
 }
@@ -94,22 +85,22 @@ pub fn open(file: &[u8]) -> Result<Picture<'_>, PictureFault>
 // Opens a film, which is a picture file with a width of up to 32768 squares. All else is as `open` has it, and whatever `open`
 // opens is opened to the same.
 pub fn open_film(file: &[u8]) -> Result<Picture<'_>, PictureFault>
-    ensures answers { λ r. ⌜ Cases r (λ p. opened most-squares (now (file .entry)) ≡ got (p .width, p .height) (now (p .rows))) (λ e. FaultAt most-squares (now (file .entry)) (e .refusal) (e .place)) ⌝ }
-    ensures grammar { λ r. ⌜ Cases r (λ p. Only most-squares (now (file .entry)) (p .width) (p .height) (now (p .rows))) (λ _. NoPicture most-squares (now (file .entry))) ⌝ }
-    ensures first_fault { λ r. ⌜ Cases r (λ _. Whole most-squares (now (file .entry))) (λ e. FirstFault most-squares (now (file .entry)) (e .refusal) (e .place)) ⌝ }
-    ensures every_row { λ r. ⌜ Cases r (λ p. EveryRow (p .width) (p .height) (now (p .rows))) (λ _. Unit {0}) ⌝ }
+    ensures answers { MatchResult result (λ p. opened most_squares file.now ≡ got (p.width, p.height) p.rows.now) (λ e. FaultAt most_squares file.now e.refusal e.place) }
+    ensures grammar { MatchResult result (λ p. Only most_squares file.now p.width p.height p.rows.now) (λ _. NoPicture most_squares file.now) }
+    ensures first_fault { MatchResult result (λ _. Whole most_squares file.now) (λ e. FirstFault most_squares file.now e.refusal e.place) }
+    ensures every_row { IfOk result (λ p. EveryRow p.width p.height p.rows.now) }
 {
     open_within(file, WIDEST_FILM)
 }
 
 // A picture file of at most so many points to a row, or its first fault.
 fn open_within(file: &[u8], widest: u32) -> Result<Picture<'_>, PictureFault>
-    requires { ⌜ widest ≤ most-squares ⌝ }
-    ensures answers { λ r. ⌜ Cases r (λ p. opened widest (now (file .entry)) ≡ got (p .width, p .height) (now (p .rows))) (λ e. FaultAt widest (now (file .entry)) (e .refusal) (e .place)) ⌝ }
-    ensures grammar { λ r. ⌜ Cases r (λ p. Only widest (now (file .entry)) (p .width) (p .height) (now (p .rows))) (λ _. NoPicture widest (now (file .entry))) ⌝ }
-    ensures first_fault { λ r. ⌜ Cases r (λ _. Whole widest (now (file .entry))) (λ e. FirstFault widest (now (file .entry)) (e .refusal) (e .place)) ⌝ }
-    ensures every_row { λ r. ⌜ Cases r (λ p. EveryRow (p .width) (p .height) (now (p .rows))) (λ _. Unit {0}) ⌝ }
-    ensures wider { λ r. ⌜ Cases r (λ p. ReadsWider widest (now (file .entry)) (p .width) (p .height) (now (p .rows))) (λ _. Unit {0}) ⌝ }
+    requires { widest ≤ most_squares }
+    ensures answers { MatchResult result (λ p. opened widest file.now ≡ got (p.width, p.height) p.rows.now) (λ e. FaultAt widest file.now e.refusal e.place) }
+    ensures grammar { MatchResult result (λ p. Only widest file.now p.width p.height p.rows.now) (λ _. NoPicture widest file.now) }
+    ensures first_fault { MatchResult result (λ _. Whole widest file.now) (λ e. FirstFault widest file.now e.refusal e.place) }
+    ensures every_row { IfOk result (λ p. EveryRow p.width p.height p.rows.now) }
+    ensures wider { IfOk result (λ p. ReadsWider widest file.now p.width p.height p.rows.now) }
 {
     match read_picture(file, widest) {
         Ok(picture) => Ok(picture),
@@ -122,8 +113,8 @@ fn open_within(file: &[u8], widest: u32) -> Result<Picture<'_>, PictureFault>
 
 // The parts one after another, as far as they go.
 fn read_picture(file: &[u8], widest: u32) -> Result<Picture<'_>, Stop>
-    requires { ⌜ widest ≤ most-squares ⌝ }
-    ensures { λ r. ⌜ Cases r (λ p. opened widest (now (file .entry)) ≡ got (p .width, p .height) (now (p .rows))) (λ e. Stopped (opened widest (now (file .entry))) (e .refusal) (e .left)) ⌝ }
+    requires { widest ≤ most_squares }
+    ensures { MatchResult result (λ p. opened widest file.now ≡ got (p.width, p.height) p.rows.now) (λ e. Stopped (opened widest file.now) e.refusal e.left) }
 {
     let rest = skip_magic(file)?;
     let rest = skip_gap(rest)?;

@@ -1,7 +1,7 @@
 // Why a picture file, a row or a head is refused: the cases, their numbers and what they print. It rests on nothing.
-ghost use mathlib.Core.Path.{_≡_};
-ghost use Rattle·std.specs.declared.option.Option.the-variants.{Some};
-ghost use Rattle·pictures·specs.Refusals.{number-of, words-of, shown-at, head-number-of, head-words-of, head-shown};
+ghost use Rattle.std.specs.Prelude.{◌≡◌, Some};
+ghost use Rattle.pictures.specs.Refusals.{number_of, words_of, shown_at, head_number_of, head_words_of, head_shown};
+
 use std::fmt;
 
 // Why a picture file was not opened, or has no such row.
@@ -24,7 +24,7 @@ pub enum PictureRefusal {
 impl PictureRefusal {
     // The number of the refusal, from 1 to 6.
     pub fn number(self) -> u8
-        ensures number { λ r. ⌜ r ≡ number-of self ⌝ }
+        ensures number { result ≡ number_of self }
     {
         match self {
             PictureRefusal::WrongMagic => 1,
@@ -37,7 +37,7 @@ impl PictureRefusal {
     }
 
     fn words(self) -> &'static str
-        ensures { λ r. ⌜ now r ≡ words-of self ⌝ }
+        ensures { result.now ≡ words_of self }
     {
         match self {
             PictureRefusal::WrongMagic => "the file does not begin with P4",
@@ -58,8 +58,8 @@ pub struct PictureFault {
     pub place: usize,
 }
 
-pub impl fmt::Display for PictureFault as PictureFaultDisplay {
-    ghost shown = { λ x. Some (shown-at (x .refusal) (x .place)) };
+impl fmt::Display for PictureFault {
+    ghost output = { λ x. Some (shown_at x.refusal x.place) };
 
     fn fmt<W: fmt::Write>(&self, f: &mut fmt::Formatter<W>) -> fmt::Result {
         let number = self.refusal.number();
@@ -81,7 +81,7 @@ pub enum HeadRefusal {
 impl HeadRefusal {
     // The number of the refusal, 33 or 34.
     pub fn number(self) -> u8
-        ensures number { λ r. ⌜ r ≡ head-number-of self ⌝ }
+        ensures number { result ≡ head_number_of self }
     {
         match self {
             HeadRefusal::Size => 33,
@@ -90,7 +90,7 @@ impl HeadRefusal {
     }
 
     fn words(self) -> &'static str
-        ensures { λ r. ⌜ now r ≡ head-words-of self ⌝ }
+        ensures { result.now ≡ head_words_of self }
     {
         match self {
             HeadRefusal::Size => "the width is outside 1 to 32768 or the height outside 1 to 4096",
@@ -99,8 +99,8 @@ impl HeadRefusal {
     }
 }
 
-pub impl fmt::Display for HeadRefusal as HeadRefusalDisplay {
-    ghost shown = { λ x. Some (head-shown x) };
+impl fmt::Display for HeadRefusal {
+    ghost output = { λ x. Some (head_shown x) };
 
     fn fmt<W: fmt::Write>(&self, f: &mut fmt::Formatter<W>) -> fmt::Result {
         let number = self.number();

@@ -5,12 +5,6 @@ mod refusals;
 
 pub use reading_back::read_back;
 pub use refusals::ReadBackRefusal;
-pub use refusals::ReadBackRefusalDebug;
-pub use refusals::ReadBackRefusalDisplay;
-pub use refusals::ReadBackRefusalEq;
-pub use refusals::ReadBackRefusalFromLay;
-pub use refusals::ReadBackRefusalFromRead;
-pub use refusals::ReadBackRefusalPartialEq;
 
 #[cfg(test)]
 mod tests;

@@ -1,31 +1,18 @@
 // The films of a row, laid on a glass and read. Rests on the light box's own `lay` and `read`.
-ghost use mathlib.Core.Path.{_≡_};
-ghost use Prim.Native.Nat.{_≤_};
-ghost use lib.ListN.{length};
-ghost use Rattle·std.specs.Results.{Cases};
-ghost use Rattle·std.specs.Vec.{made};
-ghost use Rattle·schemes.specs.Keyholders.{most-keyholders};
-ghost use Rattle·schemes.specs.PackedRows.{bytes-for};
-ghost use Rattle·schemes.specs.Refusals.{refusal-in};
-ghost use Rattle·schemes.specs.Strips.{most-squares};
-ghost use Rattle·lightbox.specs.Reading.{early-refusal};
-ghost use Rattle·readback·specs.ReadingBack.{LaidAndRead, Restores, MembersLaid, FilmsShort};
-ghost use Rattle·readback·specs.Law.{ReadsBack};
+ghost use Rattle.std.specs.Prelude.{◌≡◌, ◌≤◌, length, MatchResult, OnOk};
+ghost use Rattle.schemes.specs.Keyholders.{most_keyholders};
+ghost use Rattle.schemes.specs.PackedRows.{bytes_for};
+ghost use Rattle.schemes.specs.Refusals.{refusal_in};
+ghost use Rattle.schemes.specs.Strips.{most_squares};
+ghost use Rattle.lightbox.specs.Reading.{early_refusal};
+ghost use Rattle.readback.specs.ReadingBack.{LaidAndRead, Restores, MembersLaid, FilmsShort};
+ghost use Rattle.readback.specs.Law.{ReadsBack};
+
 use crate::ReadBackRefusal;
-use crate::ReadBackRefusalFromLay;
-use crate::ReadBackRefusalFromRead;
-use lightbox::ContrastRefusal;
-use lightbox::LayRefusal;
-use lightbox::ReadRefusal;
-use lightbox::lay;
-use lightbox::read;
-use schemes::KeyholderSet;
-use schemes::MOST_PIXELS;
-use schemes::MOST_SQUARES;
-use schemes::Scheme;
-use schemes::bytes_for;
-use schemes::strip_size;
-use schemes::strip_squares;
+use lightbox::{ContrastRefusal, LayRefusal, ReadRefusal, lay, read};
+use schemes::{
+    KeyholderSet, MOST_PIXELS, MOST_SQUARES, Scheme, bytes_for, strip_size, strip_squares,
+};
 
 // Refuses what `read` refuses before it counts a square, by the lengths of the glass and the output.
 fn admit<S: Scheme>(
@@ -35,8 +22,8 @@ fn admit<S: Scheme>(
     glass_bytes: usize,
     out_bytes: usize,
 ) -> Result<(), ReadRefusal>
-    ensures refusal { λ r. ⌜ refusal-in r ≡ early-refusal (means (now (scheme .entry))) (set .bits) w «glass_bytes» «out_bytes» ⌝ }
-    ensures short { λ r. ⌜ made r (λ _. «glass_bytes» ≤ bytes-for most-squares) ⌝ }
+    ensures refusal { refusal_in result ≡ early_refusal (means scheme.now) set.bits w glass_bytes out_bytes }
+    ensures short { OnOk result (glass_bytes ≤ bytes_for most_squares) }
 {
     if w < 1 || w > MOST_PIXELS {
         return Err(ReadRefusal::Width);
@@ -60,11 +47,11 @@ fn admit<S: Scheme>(
 // Clears the glass, and lays on it the strips of the members of a set of keyholders 1 to n. Refused where the films have not
 // n strips of the glass's length; the glass then stays as it is.
 fn lay_members(n: u8, set: KeyholderSet, films: &[u8], glass: &mut [u8]) -> Result<(), LayRefusal>
-    requires few { ⌜ n ≤ most-keyholders ⌝ }
-    requires short { ⌜ length (now glass) ≤ bytes-for most-squares ⌝ }
-    ensures { λ r. ⌜ Cases r
-        (λ _. MembersLaid n (length (now (glass .entry))) (set .bits) (now (films .entry)) (now (glass .exit)))
-        (λ why. FilmsShort n (now (films .entry)) (now (glass .entry)) why (now (glass .exit))) ⌝ }
+    requires few { n ≤ most_keyholders }
+    requires short { length glass.old ≤ bytes_for most_squares }
+    ensures { MatchResult result
+        (λ _. MembersLaid n (length glass.old) set.bits films.now glass.new)
+        (λ why. FilmsShort n films.now glass.old why glass.new) }
 {
     let size = glass.len();
     if films.len() < usize::from(n) * size {
@@ -94,9 +81,9 @@ pub fn read_back<S: Scheme>(
     glass: &mut [u8],
     out: &mut [u8],
 ) -> Result<(), ReadBackRefusal>
-    ensures reads { λ r. ⌜ LaidAndRead (means (now (scheme .entry))) (set .bits) w (now (films .entry)) (now (glass .entry)) (now (out .entry)) r (now (glass .exit)) (now (out .exit)) ⌝ }
-    ensures restores { λ r. ⌜ Restores (means (now (scheme .entry))) (set .bits) w (now (films .entry)) (now (glass .entry)) (now (out .entry)) r (now (out .exit)) ⌝ }
-    ensures whole_runs { λ _. ⌜ ReadsBack (means (now (scheme .entry))) w ⌝ }
+    ensures reads { LaidAndRead (means scheme.now) set.bits w films.now glass.old out.old result glass.new out.new }
+    ensures restores { Restores (means scheme.now) set.bits w films.now glass.old out.old result out.new }
+    ensures whole_runs { ReadsBack (means scheme.now) w }
 {
     admit(scheme, set, w, glass.len(), out.len())?;
     lay_members(scheme.keyholders(), set, films, glass)?;

@@ -1,17 +1,9 @@
 // Why films are not read back. The refusals of the light box are kept whole.
-ghost use mathlib.Core.Path.{_≡_};
-ghost use Rattle·readback·specs.declared.refusals.ReadBackRefusal.the-variants.{Lay, Read};
-ghost use Rattle·readback·specs.Refusals.{read-back-number, read-back-place};
-use lightbox::LayRefusal;
-use lightbox::LayRefusalDebug;
-use lightbox::LayRefusalDisplay;
-use lightbox::LayRefusalEq;
-use lightbox::LayRefusalPartialEq;
-use lightbox::ReadRefusal;
-use lightbox::ReadRefusalDebug;
-use lightbox::ReadRefusalDisplay;
-use lightbox::ReadRefusalEq;
-use lightbox::ReadRefusalPartialEq;
+ghost use Rattle.std.specs.Prelude.{◌≡◌};
+ghost use Rattle.readback.specs.declared.refusals.ReadBackRefusal.TheVariants.{Lay, Read};
+ghost use Rattle.readback.specs.Refusals.{read_back_number, read_back_place};
+
+use lightbox::{LayRefusal, ReadRefusal};
 use std::fmt;
 
 // Why the films of a row are not read back.
@@ -26,7 +18,7 @@ pub enum ReadBackRefusal {
 impl ReadBackRefusal {
     // The refusal's number.
     pub fn number(self) -> u8
-        ensures { λ r. ⌜ r ≡ read-back-number self ⌝ }
+        ensures { result ≡ read_back_number self }
     {
         match self {
             ReadBackRefusal::Lay(why) => why.number(),
@@ -36,7 +28,7 @@ impl ReadBackRefusal {
 
     // The pixel that the refusal is about, from 0, where it is about one.
     pub fn place(self) -> Option<u32>
-        ensures { λ r. ⌜ r ≡ read-back-place self ⌝ }
+        ensures { result ≡ read_back_place self }
     {
         match self {
             ReadBackRefusal::Lay(_) => None,
@@ -45,23 +37,23 @@ impl ReadBackRefusal {
     }
 }
 
-pub impl From<LayRefusal> for ReadBackRefusal as ReadBackRefusalFromLay {
-    ghost converts = { λ why r. r ≡ Lay why };
+impl From<LayRefusal> for ReadBackRefusal {
+    ghost from_gives = { λ why r. r ≡ Lay why };
 
     fn from(why: LayRefusal) -> ReadBackRefusal {
         ReadBackRefusal::Lay(why)
     }
 }
 
-pub impl From<ReadRefusal> for ReadBackRefusal as ReadBackRefusalFromRead {
-    ghost converts = { λ why r. r ≡ Read why };
+impl From<ReadRefusal> for ReadBackRefusal {
+    ghost from_gives = { λ why r. r ≡ Read why };
 
     fn from(why: ReadRefusal) -> ReadBackRefusal {
         ReadBackRefusal::Read(why)
     }
 }
 
-pub impl fmt::Display for ReadBackRefusal as ReadBackRefusalDisplay {
+impl fmt::Display for ReadBackRefusal {
     fn fmt<W: fmt::Write>(&self, f: &mut fmt::Formatter<W>) -> fmt::Result {
         match *self {
             ReadBackRefusal::Lay(why) => write!(f, "{why}"),

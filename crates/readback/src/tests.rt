@@ -1,28 +1,24 @@
 // A row that the maker made comes back; and refusals, with what they leave.
 use super::*;
 use maker::Maker;
-use maker::RowRefusalDebug;
-use schemes::AllOf;
-use schemes::AllOfScheme;
-use schemes::KeyholderSet;
-use schemes::SchemeRefusalDebug;
-use std::test::*;
+use schemes::{AllOf, KeyholderSet};
+use std::test::Fail;
 use tapes::PracticeTape;
-use tapes::PracticeTapeTape;
 
 // A white and a black pixel, all of 2. The byte 5 puts the second column first in the white one, and 8 the first column in the
 // black one, so that the strips are 1001 and 1010.
 #[test]
-fn reads_a_row_back() -> Result<(), Fail> {
+fn reads_a_row_back(rt: HostRuntime) -> Result<(), Fail> {
     let mut maker = Maker::new(AllOf::new(2)?, PracticeTape::new(5, 3, 2), 2, 1);
     let mut films = [0, 0];
     maker.row(&[0b0100_0000], &mut films, &mut [0, 0])?;
-    check_eq(films, [0b1001_0000, 0b1010_0000])?;
+    assert_eq!(rt; films, [0b1001_0000, 0b1010_0000]);
     let mut glass = [255];
     let mut out = [255];
     let both = KeyholderSet::from_bits(3);
     read_back(&AllOf::new(2)?, both, 2, &films, &mut glass, &mut out)?;
-    check_eq((glass[0], out[0]), (0b1011_0000, 0b0100_0000))
+    assert_eq!(rt; (glass[0], out[0]), (0b1011_0000, 0b0100_0000));
+    Ok(())
 }
 
 // Calls with all of 2: a width, and how many bytes of white films there are; then the number and the place of the refusal, and
@@ -34,7 +30,7 @@ const REFUSED: [(u32, usize, u8, Option<u32>, u8); 3] = [
 ];
 
 #[test]
-fn refuses() -> Result<(), Fail> {
+fn refuses(rt: HostRuntime) -> Result<(), Fail> {
     let both = KeyholderSet::from_bits(3);
     for (w, length, number, place, held) in REFUSED {
         let films = [0, 0];
@@ -52,8 +48,8 @@ fn refuses() -> Result<(), Fail> {
             Ok(()) => (0, None),
             Err(why) => (why.number(), why.place()),
         };
-        check_eq((said, at), (number, place))?;
-        check_eq((glass[0], out[0]), (held, held))?;
+        assert_eq!(rt; (said, at), (number, place));
+        assert_eq!(rt; (glass[0], out[0]), (held, held));
     }
     Ok(())
 }

@@ -4,11 +4,4 @@ mod law;
 mod refusals;
 
 pub use law::keep_the_law;
-pub use refusals::RowRefusal;
-pub use refusals::RowRefusalDebug;
-pub use refusals::RowRefusalDisplay;
-pub use refusals::RowRefusalPartialEq;
-pub use refusals::SpoilRefusal;
-pub use refusals::SpoilRefusalDebug;
-pub use refusals::SpoilRefusalDisplay;
-pub use refusals::SpoilRefusalPartialEq;
+pub use refusals::{RowRefusal, SpoilRefusal};

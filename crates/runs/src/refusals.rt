@@ -1,6 +1,7 @@
 // Why a row is not made, or not spoiled.
-ghost use mathlib.Core.Path.{_≡_};
-ghost use Rattle·runs·specs.Refusals.{row-number, spoil-number};
+ghost use Rattle.std.specs.Prelude.{◌≡◌};
+ghost use Rattle.runs.specs.Refusals.{row_number, spoil_number};
+
 use std::fmt;
 
 // Why a row is not made. All but `TapeEnd` take no byte and leave the output unchanged; of several the lowest is answered.
@@ -25,7 +26,7 @@ pub enum RowRefusal {
 impl RowRefusal {
     // The refusal's number.
     pub fn number(self) -> u8
-        ensures { λ r. ⌜ r ≡ row-number self ⌝ }
+        ensures { result ≡ row_number self }
     {
         match self {
             RowRefusal::PageSize => 17,
@@ -52,7 +53,7 @@ impl RowRefusal {
     }
 }
 
-pub impl fmt::Display for RowRefusal as RowRefusalDisplay {
+impl fmt::Display for RowRefusal {
     fn fmt<W: fmt::Write>(&self, f: &mut fmt::Formatter<W>) -> fmt::Result {
         let number = self.number();
         let words = self.words();
@@ -72,7 +73,7 @@ pub enum SpoilRefusal {
 impl SpoilRefusal {
     // The refusal's number.
     pub fn number(self) -> u8
-        ensures { λ r. ⌜ r ≡ spoil-number self ⌝ }
+        ensures { result ≡ spoil_number self }
     {
         match self {
             SpoilRefusal::NoRowMade => 24,
@@ -89,7 +90,7 @@ impl SpoilRefusal {
     }
 }
 
-pub impl fmt::Display for SpoilRefusal as SpoilRefusalDisplay {
+impl fmt::Display for SpoilRefusal {
     fn fmt<W: fmt::Write>(&self, f: &mut fmt::Formatter<W>) -> fmt::Result {
         let number = self.number();
         let words = self.words();

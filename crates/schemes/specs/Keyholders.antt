@@ -1,13 +1,11 @@
 -- Sets of keyholders. Keyholders are numbered from 1 on, and a set of them is a number whose bit i - 1 is set where
 -- keyholder i is in the set.
-use mathlib.Core.Path.{_≡_}
-use mathlib.Core.Bool.{Bool, true, false}
-use Prim.Native.Nat.{ℕ, zero, suc, _-_, _^_, _<_}
-use Rattle·schemes·specs.Bits.{bit, count-below}
+use Rattle.std.specs.Prelude.{◌≡◌, ℕ, zero, suc, ◌-◌, ◌^◌, ◌<◌, Bool, true, false}
+use Rattle.schemes.specs.Bits.{bit, count_below}
 
 -- A set has so many bits: the width of `KeyholderSet`.
-abbrev pub most-keyholders : ℕ
-most-keyholders = 8
+abbrev pub most_keyholders : ℕ
+most_keyholders = 8
 
 -- Keyholder i is in the set.
 abbrev pub member : (set i : ℕ) → Bool
@@ -23,12 +21,12 @@ abbrev pub Empty : (set : ℕ) → Type 0
 Empty set = (i : ℕ) → member set i ≡ false
 
 -- How many members a set of keyholders 1 to n has.
-abbrev pub members-among : (n set : ℕ) → ℕ
-members-among n set = count-below n (λ k. member set (suc k))
+abbrev pub members_among : (n set : ℕ) → ℕ
+members_among n set = count_below n (λ k. member set (suc k))
 
 -- How many members a set has.
 abbrev pub size : (set : ℕ) → ℕ
-size set = members-among most-keyholders set
+size set = members_among most_keyholders set
 
 -- A set of keyholders 1 to n: it has no bit from n on.
 abbrev pub Among : (n set : ℕ) → Type 0

@@ -7,3 +7,8 @@ pub mod PackedRows
 pub mod Refusals
 pub mod Strips
 pub mod TwoOf
+pub mod AllOfFacts
+pub mod TestFacts
+pub mod BitFacts
+pub mod TableFacts
+pub mod TwoOfFacts

@@ -1,14 +1,8 @@
 -- Why a scheme is not made: the number and the place of each refusal.
-use mathlib.Core.Bool.{_||_, cond}
-use Prim.Native.Nat.{ℕ}
-use lib.Dec.{ltb}
-use Rattle·std.specs.declared.option.Option.{Option}
-use Rattle·std.specs.declared.option.Option.the-variants.{Some, None}
-use Rattle·std.specs.declared.result.Result.{Result}
-use Rattle·std.specs.declared.result.Result.the-variants.{Ok, Err}
-use Rattle·schemes·specs.Keyholders.{most-keyholders}
-use Rattle·schemes·specs.declared.refusals.SchemeRefusal.{SchemeRefusal}
-use Rattle·schemes·specs.declared.refusals.SchemeRefusal.the-variants.{Keyholders, ListLength, Members, Redundant, ForbiddenSets, Memory}
+use Rattle.std.specs.Prelude.{ℕ, cond, ◌||◌, Some, None, Ok, Err, Option, Result, nat_lt}
+use Rattle.schemes.specs.Keyholders.{most_keyholders}
+use Rattle.schemes.specs.declared.refusals.SchemeRefusal.{SchemeRefusal}
+use Rattle.schemes.specs.declared.refusals.SchemeRefusal.TheVariants.{Keyholders, ListLength, Members, Redundant, ForbiddenSets, Memory}
 
 -- Want of memory is no refusal of the rules, and has the number 0.
 abbrev pub number : SchemeRefusal → ℕ
@@ -29,10 +23,10 @@ place ForbiddenSets = 0
 place Memory = 0
 
 -- The refusal that an answer holds, if it is one.
-abbrev pub refusal-in : {A E : Type 0} → Result A E → Option E
-refusal-in (Ok value) = None
-refusal-in (Err why) = Some why
+abbrev pub refusal_in : {A E : Type 0} → Result A E → Option E
+refusal_in (Ok value) = None
+refusal_in (Err why) = Some why
 
 -- The refusal of a number of keyholders that is outside least to 8.
-abbrev pub keyholders-from : (least n : ℕ) → Option SchemeRefusal
-keyholders-from least n = cond (ltb n least || ltb most-keyholders n) (Some Keyholders) None
+abbrev pub keyholders_from : (least n : ℕ) → Option SchemeRefusal
+keyholders_from least n = cond (nat_lt n least || nat_lt most_keyholders n) (Some Keyholders) None

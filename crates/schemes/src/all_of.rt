@@ -1,30 +1,26 @@
 // All of n: only all keyholders together read the secret.
-ghost use mathlib.Core.Path.{_≡_};
-ghost use Prim.Native.Nat.{_≤_, _<_, _^_};
-ghost use Rattle·std.specs.Vec.{made};
-ghost use Rattle·schemes·specs.Bits.{parity};
-ghost use Rattle·schemes·specs.Keyholders.{most-keyholders};
-ghost use Rattle·schemes·specs.AllOf.{last-row, all-of, LevelsOfAll};
-ghost use Rattle·schemes·specs.Refusals.{refusal-in, keyholders-from};
-use crate::Colour;
-use crate::KeyholderSet;
-use crate::MOST_KEYHOLDERS;
-use crate::Scheme;
-use crate::SchemeRefusal;
+ghost use Rattle.std.specs.Prelude.{◌≡◌, ◌^◌, ◌<◌, ◌≤◌, IfOk, OnOk};
+ghost use Rattle.schemes.specs.Bits.{parity};
+ghost use Rattle.schemes.specs.Keyholders.{most_keyholders};
+ghost use Rattle.schemes.specs.AllOf.{last_row, all_of, LevelsOfAll};
+ghost use Rattle.schemes.specs.Refusals.{refusal_in, keyholders_from};
+ghost use Rattle.schemes.specs.AllOfFacts.{all_of_in_range, all_of_lawful};
+
 use crate::bits::has_bit;
+use crate::{Colour, KeyholderSet, MOST_KEYHOLDERS, Scheme, SchemeRefusal};
 
 // Whether an odd number of a column's bits is set.
 fn is_odd(column: u8, width: u8) -> bool
-    requires { ⌜ column < 2 ^ width ⌝ }
-    ensures { λ r. ⌜ r ≡ parity width column ⌝ }
+    requires { column < 2 ^ width }
+    ensures { result ≡ parity width column }
 {
     column.count_ones() % 2 == 1
 }
 
 // The cell of the last keyholder, at a column of so many bits.
 fn last_cell(width: u8, colour: Colour, column: u8) -> bool
-    requires { ⌜ column < 2 ^ width ⌝ }
-    ensures { λ r. ⌜ r ≡ last-row width colour column ⌝ }
+    requires { column < 2 ^ width }
+    ensures { result ≡ last_row width colour column }
 {
     match colour {
         Colour::White => is_odd(column, width),
@@ -37,15 +33,15 @@ fn last_cell(width: u8, colour: Colour, column: u8) -> bool
 pub struct AllOf {
     n: u8,
     ghost least: { 1 ≤ n },
-    ghost most: { n ≤ most-keyholders },
+    ghost most: { n ≤ most_keyholders },
 }
 
 impl AllOf {
     // All of n. Refused where n is outside 1 to 8.
     pub fn new(n: u8) -> Result<AllOf, SchemeRefusal>
-        ensures refusal { λ r. ⌜ refusal-in r ≡ keyholders-from 1 n ⌝ }
-        ensures made { λ r. ⌜ made r (λ s. s .n ≡ n) ⌝ }
-        ensures levels { λ r. ⌜ made r (λ _. LevelsOfAll n) ⌝ }
+        ensures refusal { refusal_in result ≡ keyholders_from 1 n }
+        ensures made { IfOk result (λ s. s.n ≡ n) }
+        ensures levels { OnOk result (LevelsOfAll n) }
     {
         if n < 1 || n > MOST_KEYHOLDERS {
             return Err(SchemeRefusal::Keyholders);
@@ -54,8 +50,12 @@ impl AllOf {
     }
 }
 
-pub impl Scheme for AllOf as AllOfScheme {
-    ghost means = { λ s. all-of (s .n) };
+impl Scheme for AllOf {
+    ghost means = { λ s. all_of s.n };
+
+    ghost in_range = { λ s. all_of_in_range s.n s.least s.most };
+
+    ghost lawful = { λ s. all_of_lawful s.n s.least };
 
     fn keyholders(&self) -> u8 {
         self.n

@@ -1,14 +1,9 @@
-// Sets of keyholders, who are numbered from 1 on. The width of a set stands here alone, and as `most-keyholders` in the
+// Sets of keyholders, who are numbered from 1 on. The width of a set stands here alone, and as `most_keyholders` in the
 // specification.
-ghost use mathlib.Core.Path.{_≡_};
-ghost use mathlib.Core.Bool.{_&&_, _||_};
-ghost use Prim.Native.Nat.{ℕ, min, _^_, _≤_};
-ghost use lib.Dec.{eqb, leb, ltb};
-ghost use Rattle·std.specs.Options.{isSome, Cases};
-ghost use Rattle·std.specs.Orderings.{Decides};
-ghost use Rattle·schemes·specs.Keyholders.{most-keyholders, member, Within, Empty, size, everyone};
-use crate::bits::has_bit;
-use crate::bits::with_bit;
+ghost use Rattle.std.specs.Prelude.{◌≡◌, ℕ, ◌^◌, ◌≤◌, min, ◌&&◌, ◌||◌, is_some, IfSome, Decides, ◌==◌, nat_le, nat_lt};
+ghost use Rattle.schemes.specs.Keyholders.{most_keyholders, member, Within, Empty, size, everyone};
+
+use crate::bits::{has_bit, with_bit};
 use std::fmt;
 
 // A set names keyholders 1 to 8.
@@ -23,14 +18,14 @@ pub struct KeyholderSet {
 impl KeyholderSet {
     // The set of this number.
     pub fn from_bits(bits: u8) -> KeyholderSet
-        ensures { λ r. ⌜ r .bits ≡ bits ⌝ }
+        ensures { result.bits ≡ bits }
     {
         KeyholderSet { bits }
     }
 
     // All of keyholders 1 to n, as far as a set goes.
     pub fn everyone(n: u8) -> KeyholderSet
-        ensures { λ r. ⌜ r .bits ≡ everyone (min n most-keyholders) ⌝ }
+        ensures { result.bits ≡ everyone (min n most_keyholders) }
     {
         if n >= MOST_KEYHOLDERS {
             return KeyholderSet { bits: u8::MAX };
@@ -40,22 +35,22 @@ impl KeyholderSet {
 
     // The number of the set.
     pub fn bits(self) -> u8
-        ensures { λ r. ⌜ r ≡ self .bits ⌝ }
+        ensures { result ≡ self.bits }
     {
         self.bits
     }
 
     // Whether the keyholder is a member.
     pub fn has(self, keyholder: u8) -> bool
-        ensures { λ r. ⌜ r ≡ member (self .bits) keyholder ⌝ }
+        ensures { result ≡ member self.bits keyholder }
     {
         is_member(self.bits, keyholder)
     }
 
     // The set with this keyholder as well; none where the keyholder is outside 1 to 8.
     pub fn with(self, keyholder: u8) -> Option<KeyholderSet>
-        ensures range { λ r. ⌜ isSome r ≡ (leb 1 keyholder && leb keyholder most-keyholders) ⌝ }
-        ensures members { λ r. ⌜ Cases r (Unit {0}) (λ set. (i : ℕ) → member (set .bits) i ≡ (eqb i keyholder || member (self .bits) i)) ⌝ }
+        ensures range { is_some result ≡ (nat_le 1 keyholder && nat_le keyholder most_keyholders) }
+        ensures members { IfSome result (λ set. (i : ℕ) → member set.bits i ≡ (i == keyholder || member self.bits i)) }
     {
         if keyholder < 1 || keyholder > MOST_KEYHOLDERS {
             return None;
@@ -67,28 +62,28 @@ impl KeyholderSet {
 
     // Whether every member of the other set is a member of this one.
     pub fn contains(self, other: KeyholderSet) -> bool
-        ensures { λ r. ⌜ Decides r (Within (other .bits) (self .bits)) ⌝ }
+        ensures { Decides result (Within other.bits self.bits) }
     {
         are_within(other.bits, self.bits)
     }
 
     // Whether the set has no member.
     pub fn is_empty(self) -> bool
-        ensures { λ r. ⌜ Decides r (Empty (self .bits)) ⌝ }
+        ensures { Decides result (Empty self.bits) }
     {
         are_none(self.bits)
     }
 
     // How many members the set has.
     pub fn len(self) -> u8
-        ensures { λ r. ⌜ r ≡ size (self .bits) ⌝ }
+        ensures { result ≡ size self.bits }
     {
         count_members(self.bits)
     }
 
     // Whether no member is above n.
     pub fn is_among(self, n: u8) -> bool
-        ensures { λ r. ⌜ r ≡ ltb (self .bits) (2 ^ n) ⌝ }
+        ensures { result ≡ nat_lt self.bits (2 ^ n) }
     {
         are_among(self.bits, n)
     }
@@ -97,7 +92,7 @@ impl KeyholderSet {
 // ---- the same of the number of a set
 
 fn is_member(bits: u8, keyholder: u8) -> bool
-    ensures { λ r. ⌜ r ≡ member bits keyholder ⌝ }
+    ensures { result ≡ member bits keyholder }
 {
     if keyholder < 1 || keyholder > MOST_KEYHOLDERS {
         return false;
@@ -106,38 +101,38 @@ fn is_member(bits: u8, keyholder: u8) -> bool
 }
 
 fn with_member(bits: u8, keyholder: u8) -> u8
-    requires { ⌜ 1 ≤ keyholder ⌝ ∗ ⌜ keyholder ≤ most-keyholders ⌝ }
-    ensures { λ r. ⌜ ((i : ℕ) → member r i ≡ (eqb i keyholder || member bits i)) ⌝ }
+    requires { (1 ≤ keyholder) × (keyholder ≤ most_keyholders) }
+    ensures { (i : ℕ) → member result i ≡ (i == keyholder || member bits i) }
 {
     with_bit(bits, keyholder - 1)
 }
 
 fn are_within(a: u8, b: u8) -> bool
-    ensures { λ r. ⌜ Decides r (Within a b) ⌝ }
+    ensures { Decides result (Within a b) }
 {
     a & b == a
 }
 
 fn are_none(bits: u8) -> bool
-    ensures { λ r. ⌜ Decides r (Empty bits) ⌝ }
+    ensures { Decides result (Empty bits) }
 {
     bits == 0
 }
 
 fn count_members(bits: u8) -> u8
-    ensures { λ r. ⌜ r ≡ size bits ⌝ }
+    ensures { result ≡ size bits }
 {
     bits.count_ones() as u8
 }
 
 fn are_among(bits: u8, n: u8) -> bool
-    ensures { λ r. ⌜ r ≡ ltb bits (2 ^ n) ⌝ }
+    ensures { result ≡ nat_lt bits (2 ^ n) }
 {
     bits <= KeyholderSet::everyone(n).bits
 }
 
 // A set is written as its members in braces, {1,3}.
-pub impl fmt::Display for KeyholderSet as KeyholderSetDisplay {
+impl fmt::Display for KeyholderSet {
     fn fmt<W: fmt::Write>(&self, f: &mut fmt::Formatter<W>) -> fmt::Result {
         write!(f, "{{")?;
         let mut some = false;

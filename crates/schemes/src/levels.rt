@@ -1,9 +1,8 @@
 // Light and dark of a set of keyholders: how many columns of its stack are black.
-ghost use mathlib.Core.Path.{_≡_};
-ghost use Rattle·schemes·specs.Meaning.{stack, blacks, light, dark};
-use crate::Colour;
-use crate::KeyholderSet;
-use crate::Scheme;
+ghost use Rattle.std.specs.Prelude.{◌≡◌};
+ghost use Rattle.schemes.specs.Meaning.{stack, blacks, light, dark};
+
+use crate::{Colour, KeyholderSet, Scheme};
 
 // How many squares are black over a white pixel, and over a black one.
 #[derive(Clone, Copy, PartialEq, Eq, Debug)]
@@ -14,7 +13,7 @@ pub struct Levels {
 
 // Whether the films of the set's members, laid on one another, are black at the column.
 fn is_stack_black<S: Scheme>(scheme: &S, colour: Colour, set: KeyholderSet, column: u8) -> bool
-    ensures { λ r. ⌜ r ≡ stack (means (now (scheme .entry))) colour (set .bits) column ⌝ }
+    ensures { result ≡ stack (means scheme.now) colour set.bits column }
 {
     for k in 0..scheme.keyholders() {
         if set.has(k + 1) && scheme.cell(colour, k + 1, column) {
@@ -26,7 +25,7 @@ fn is_stack_black<S: Scheme>(scheme: &S, colour: Colour, set: KeyholderSet, colu
 
 // At how many columns they are.
 fn count_blacks<S: Scheme>(scheme: &S, colour: Colour, set: KeyholderSet) -> u8
-    ensures { λ r. ⌜ r ≡ blacks (means (now (scheme .entry))) colour (set .bits) ⌝ }
+    ensures { result ≡ blacks (means scheme.now) colour set.bits }
 {
     let mut total = 0;
     for column in 0..scheme.columns() {
@@ -39,8 +38,8 @@ fn count_blacks<S: Scheme>(scheme: &S, colour: Colour, set: KeyholderSet) -> u8
 
 // Light and dark of any set, qualified or not; keyholders above n show nothing.
 pub fn levels_of<S: Scheme>(scheme: &S, set: KeyholderSet) -> Levels
-    ensures light { λ r. ⌜ r .light ≡ light (means (now (scheme .entry))) (set .bits) ⌝ }
-    ensures dark { λ r. ⌜ r .dark ≡ dark (means (now (scheme .entry))) (set .bits) ⌝ }
+    ensures light { result.light ≡ light (means scheme.now) set.bits }
+    ensures dark { result.dark ≡ dark (means scheme.now) set.bits }
 {
     Levels {
         light: count_blacks(scheme, Colour::White, set),

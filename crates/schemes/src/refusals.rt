@@ -1,6 +1,7 @@
 // Why a scheme is not made.
-ghost use mathlib.Core.Path.{_≡_};
-ghost use Rattle·schemes·specs.Refusals.{number, place};
+ghost use Rattle.std.specs.Prelude.{◌≡◌};
+ghost use Rattle.schemes.specs.Refusals.{number, place};
+
 use std::fmt;
 
 // Why a scheme is not made. Each refusal has a number, and a place in the list of sets where it is about one of them.
@@ -23,7 +24,7 @@ pub enum SchemeRefusal {
 impl SchemeRefusal {
     // The refusal's number; 0 for want of memory.
     pub fn number(self) -> u8
-        ensures { λ r. ⌜ r ≡ number self ⌝ }
+        ensures { result ≡ number self }
     {
         match self {
             SchemeRefusal::Keyholders => 7,
@@ -37,7 +38,7 @@ impl SchemeRefusal {
 
     // The place of the set that the refusal is about, from 0; 0 where it is about none.
     pub fn place(self) -> usize
-        ensures { λ r. ⌜ r ≡ place self ⌝ }
+        ensures { result ≡ place self }
     {
         match self {
             SchemeRefusal::Members(place) | SchemeRefusal::Redundant(place) => place,
@@ -46,7 +47,7 @@ impl SchemeRefusal {
     }
 }
 
-pub impl fmt::Display for SchemeRefusal as SchemeRefusalDisplay {
+impl fmt::Display for SchemeRefusal {
     fn fmt<W: fmt::Write>(&self, f: &mut fmt::Formatter<W>) -> fmt::Result {
         let number = self.number();
         match *self {

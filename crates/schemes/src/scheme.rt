@@ -1,9 +1,9 @@
 // The interface of a scheme. Its meaning is one record, and every implementation proves the laws.
-ghost use mathlib.Core.Path.{_≡_};
-ghost use Rattle·schemes·specs.Meaning.{Meaning};
-ghost use Rattle·schemes·specs.Laws.{InRange, Lawful};
-use crate::Colour;
-use crate::KeyholderSet;
+ghost use Rattle.std.specs.Prelude.{◌≡◌};
+ghost use Rattle.schemes.specs.Meaning.{Meaning};
+ghost use Rattle.schemes.specs.Laws.{InRange, Lawful};
+
+use crate::{Colour, KeyholderSet};
 
 // A scheme has at most so many columns.
 pub const MOST_COLUMNS: u8 = 128;
@@ -14,25 +14,25 @@ pub trait Scheme {
     // What the scheme means.
     ghost means: { Self → Meaning };
 
-    // 1 to 8 keyholders and 1 to 128 columns; questions out of range are answered by 0 and no.
-    law in_range: { (s : Self) → InRange (means s) };
-
-    // The four laws.
-    law lawful: { (s : Self) → Lawful (means s) };
-
     // The number n of keyholders.
     fn keyholders(&self) -> u8
-        ensures { λ r. ⌜ r ≡ means (now (self .entry)) .n ⌝ };
+        ensures { result ≡ (means self.now).n };
 
     // The number m of columns.
     fn columns(&self) -> u8
-        ensures { λ r. ⌜ r ≡ means (now (self .entry)) .m ⌝ };
+        ensures { result ≡ (means self.now).m };
 
     // The cell of a keyholder, from 1 on, at a column, from 0 on: true is 1, a black square. Out of range it is 0.
     fn cell(&self, colour: Colour, keyholder: u8, column: u8) -> bool
-        ensures { λ r. ⌜ r ≡ means (now (self .entry)) .cell colour keyholder column ⌝ };
+        ensures { result ≡ (means self.now).cell colour keyholder column };
 
     // Whether the members of the set can read the secret together. A set with a member above n is not qualified.
     fn qualified(&self, set: KeyholderSet) -> bool
-        ensures { λ r. ⌜ r ≡ means (now (self .entry)) .qualified (set .bits) ⌝ };
+        ensures { result ≡ (means self.now).qualified set.bits };
+
+    // 1 to 8 keyholders and 1 to 128 columns; questions out of range are answered by 0 and no.
+    ghost in_range: { (s : Self) → InRange (means s) };
+
+    // The four laws.
+    ghost lawful: { (s : Self) → Lawful (means s) };
 }

@@ -1,6 +1,7 @@
 // The sizes of strips, the rows of a film.
-ghost use mathlib.Core.Path.{_≡_};
-ghost use Rattle·schemes·specs.Strips.{strip-squares, strip-size};
+ghost use Rattle.std.specs.Prelude.{◌≡◌};
+ghost use Rattle.schemes.specs.Strips.{strip_squares, strip_size};
+
 use crate::packed_rows::bytes_for;
 
 // A row has at most so many pixels.
@@ -11,14 +12,14 @@ pub const MOST_SQUARES: u64 = 32768;
 
 // How many squares a strip has, for so many columns and pixels.
 pub fn strip_squares(columns: u8, pixels: u32) -> u64
-    ensures { λ r. ⌜ r ≡ strip-squares columns pixels ⌝ }
+    ensures { result ≡ strip_squares columns pixels }
 {
     pixels as u64 * columns as u64
 }
 
 // How many bytes a strip has, for so many columns and pixels.
 pub fn strip_size(columns: u8, pixels: u32) -> usize
-    ensures { λ r. ⌜ r ≡ strip-size columns pixels ⌝ }
+    ensures { result ≡ strip_size columns pixels }
 {
     bytes_for(strip_squares(columns, pixels) as usize)
 }

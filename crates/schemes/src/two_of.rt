@@ -1,19 +1,15 @@
 // Two of n: any two keyholders read the secret together.
-ghost use mathlib.Core.Path.{_≡_};
-ghost use Prim.Native.Nat.{_≤_, _<_, _^_};
-ghost use Rattle·std.specs.Vec.{made};
-ghost use Rattle·schemes·specs.Keyholders.{most-keyholders, members-among};
-ghost use Rattle·schemes·specs.TwoOf.{row, two-of, LevelsOfTwo};
-ghost use Rattle·schemes·specs.Refusals.{refusal-in, keyholders-from};
-use crate::Colour;
-use crate::KeyholderSet;
-use crate::MOST_KEYHOLDERS;
-use crate::Scheme;
-use crate::SchemeRefusal;
+ghost use Rattle.std.specs.Prelude.{◌≡◌, ◌^◌, ◌<◌, ◌≤◌, IfOk};
+ghost use Rattle.schemes.specs.Keyholders.{most_keyholders, members_among};
+ghost use Rattle.schemes.specs.TwoOf.{row, two_of, LevelsOfTwo};
+ghost use Rattle.schemes.specs.Refusals.{refusal_in, keyholders_from};
+ghost use Rattle.schemes.specs.TwoOfFacts.{two_of_in_range, two_of_lawful};
+
+use crate::{Colour, KeyholderSet, MOST_KEYHOLDERS, Scheme, SchemeRefusal};
 
 // The cell of row k, that of keyholder k + 1.
 fn row_cell(colour: Colour, k: u8, column: u8) -> bool
-    ensures { λ r. ⌜ r ≡ row colour k column ⌝ }
+    ensures { result ≡ row colour k column }
 {
     match colour {
         Colour::White => column == 0,
@@ -23,8 +19,8 @@ fn row_cell(colour: Colour, k: u8, column: u8) -> bool
 
 // How many members a set of keyholders 1 to n has.
 fn count_among(n: u8, set: KeyholderSet) -> u8
-    requires { ⌜ n ≤ most-keyholders ⌝ ∗ ⌜ set .bits < 2 ^ n ⌝ }
-    ensures { λ r. ⌜ r ≡ members-among n (set .bits) ⌝ }
+    requires { (n ≤ most_keyholders) × (set.bits < 2 ^ n) }
+    ensures { result ≡ members_among n set.bits }
 {
     set.len()
 }
@@ -34,15 +30,15 @@ fn count_among(n: u8, set: KeyholderSet) -> u8
 pub struct TwoOf {
     n: u8,
     ghost least: { 2 ≤ n },
-    ghost most: { n ≤ most-keyholders },
+    ghost most: { n ≤ most_keyholders },
 }
 
 impl TwoOf {
     // Two of n. Refused where n is outside 2 to 8.
     pub fn new(n: u8) -> Result<TwoOf, SchemeRefusal>
-        ensures refusal { λ r. ⌜ refusal-in r ≡ keyholders-from 2 n ⌝ }
-        ensures made { λ r. ⌜ made r (λ s. s .n ≡ n) ⌝ }
-        ensures levels { λ _. ⌜ LevelsOfTwo n ⌝ }
+        ensures refusal { refusal_in result ≡ keyholders_from 2 n }
+        ensures made { IfOk result (λ s. s.n ≡ n) }
+        ensures levels { LevelsOfTwo n }
     {
         if n < 2 || n > MOST_KEYHOLDERS {
             return Err(SchemeRefusal::Keyholders);
@@ -51,8 +47,12 @@ impl TwoOf {
     }
 }
 
-pub impl Scheme for TwoOf as TwoOfScheme {
-    ghost means = { λ s. two-of (s .n) };
+impl Scheme for TwoOf {
+    ghost means = { λ s. two_of s.n };
+
+    ghost in_range = { λ s. two_of_in_range s.n s.least s.most };
+
+    ghost lawful = { λ s. two_of_lawful s.n s.least };
 
     fn keyholders(&self) -> u8 {
         self.n

@@ -1,6 +1,5 @@
 pub mod Drawing
 pub mod Counts
-pub mod Runs
 pub mod Spellings
 pub mod Removals
 pub mod Forward

@@ -1,17 +1,11 @@
 -- What a call that draws an order into a slice answers and leaves.
-use mathlib.Core.Bool.{Bool, cond, _&&_}
-use mathlib.Core.List.{List, []}
-use Prim.Native.Nat.{ℕ}
-use lib.Dec.{leb}
-use lib.ListN.{length, replicate}
-use Rattle·std.specs.declared.option.Option.{Option}
-use Rattle·std.specs.declared.option.Option.the-variants.{Some, None}
-use Rattle·tapes·specs.Drawing.{Drawn, short, drawn}
-use Rattle·tapes·specs.Orders.{order}
+use Rattle.std.specs.Prelude.{ℕ, Bool, cond, ◌&&◌, List, [], length, replicate, Some, None, Option, nat_le}
+use Rattle.tapes.specs.Drawing.{Drawn, short, drawn}
+use Rattle.tapes.specs.Orders.{order}
 
 -- Whether a block has so many columns.
-abbrev pub is-block : ℕ → Bool
-is-block m = leb 1 m && leb m 128
+abbrev pub is_block : ℕ → Bool
+is_block m = nat_le 1 m && nat_le m 128
 
 pub record Outcome : Type 0 where
   pub answer : Option (Unit {0})
@@ -29,4 +23,4 @@ ordered m (drawn o rest) = record { answer = Some tt; slice = o; waiting = rest 
 
 -- The slice has a byte for each column of the block.
 abbrev pub outcome : (slice tape : List ℕ) → Outcome
-outcome slice tape = cond (is-block (length slice)) (ordered (length slice) (order (length slice) tape)) (untouched slice tape)
+outcome slice tape = cond (is_block (length slice)) (ordered (length slice) (order (length slice) tape)) (untouched slice tape)

@@ -5,3 +5,4 @@ pub mod Orders
 pub mod Permutations
 pub mod Blocks
 pub mod Worked
+pub mod Runs

@@ -1,11 +1,8 @@
 -- The column order of a block: digits, and the columns that they take away one by one.
-use mathlib.Core.List.{List, [], _∷_}
-use Prim.Native.Nat.{ℕ, zero, suc}
-use lib.ListN.{getD}
-use Rattle·std.specs.Iters.{counting}
-use Rattle·std.specs.shelf.Lists.{removed}
-use Rattle·tapes·specs.Drawing.{drawn, Draw, onward}
-use Rattle·tapes·specs.Digits.{digit}
+use Rattle.std.specs.Prelude.{ℕ, zero, suc, List, [], ◌∷◌, slice_index}
+use Rattle.std.specs.List.{range_with_len, remove}
+use Rattle.tapes.specs.Drawing.{drawn, Draw, onward}
+use Rattle.tapes.specs.Digits.{digit}
 
 -- The digits of a block of m columns: one of each base m, m - 1, down to 2.
 abbrev pub digits : ℕ → Draw (List ℕ)
@@ -16,12 +13,12 @@ digits (suc (suc k)) tape =
 
 -- The columns 0 to m - 1, in rising order.
 abbrev pub columns : ℕ → List ℕ
-columns m = counting 0 m
+columns m = range_with_len 0 m
 
 -- Each digit takes away the column at its place among those that remain; the columns taken, then what is left, are the order.
 abbrev pub arranged : (remaining ds : List ℕ) → List ℕ
 arranged remaining [] = remaining
-arranged remaining (d ∷ ds) = getD remaining d 0 ∷ arranged (removed remaining d) ds
+arranged remaining (d ∷ ds) = slice_index remaining d ∷ arranged (remove remaining d) ds
 
 -- These m columns, arranged by digits drawn from the tape.
 abbrev pub arranging : ℕ → List ℕ → Draw (List ℕ)

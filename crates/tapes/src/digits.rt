@@ -1,12 +1,9 @@
 // Digits drawn from a tape. Every digit of a base is spelled by equally many bytes.
-ghost use mathlib.Core.Path.{_≡_};
-ghost use mathlib.Core.Bool.{cond};
-ghost use Prim.Native.Nat.{_%_, _≤_};
-ghost use lib.Dec.{ltb};
-ghost use Rattle·std.specs.Options.{mapped};
-ghost use Rattle·std.specs.declared.option.Option.the-variants.{Some, None};
-ghost use Rattle·tapes·specs.Drawing.{value-of, rest-of};
-ghost use Rattle·tapes·specs.Digits.{is-base, bound, digit, Fair};
+ghost use Rattle.std.specs.Prelude.{◌≡◌, ◌%◌, ◌≤◌, if◌then◌else◌, Some, None, nat_lt};
+ghost use Rattle.std.specs.Option.{option_map};
+ghost use Rattle.tapes.specs.Drawing.{value_of, rest_of};
+ghost use Rattle.tapes.specs.Digits.{is_base, bound, digit, Fair};
+
 use crate::Tape;
 
 // The smallest and the greatest base.
@@ -25,7 +22,7 @@ pub struct Base {
 impl Base {
     // This number as a base; `None` outside 2 to 128.
     pub fn new(value: u8) -> Option<Base>
-        ensures answers { λ r. ⌜ mapped (λ b. b .value) r ≡ cond (is-base value) (Some value) None ⌝ }
+        ensures answers { option_map (λ b. b.value) result ≡ (if is_base value then Some value else None) }
     {
         if value < BASE_MIN || value > BASE_MAX {
             return None;
@@ -35,16 +32,16 @@ impl Base {
 
     // A number that is known to be a base.
     pub(crate) fn known(value: u8) -> Base
-        requires least { ⌜ 2 ≤ value ⌝ }
-        requires most { ⌜ value ≤ 128 ⌝ }
-        ensures { λ r. ⌜ r .value ≡ value ⌝ }
+        requires least { 2 ≤ value }
+        requires most { value ≤ 128 }
+        ensures { result.value ≡ value }
     {
         Base { value }
     }
 
     // The number that it is.
     pub fn value(self) -> u8
-        ensures gives { λ r. ⌜ r ≡ self .value ⌝ }
+        ensures gives { result ≡ self.value }
     {
         self.value
     }
@@ -53,7 +50,7 @@ impl Base {
 // The digit that a byte spells; `None` for a byte at or above the bound. The bytes 0 to 255 fall into rows, of one byte for
 // each digit, and the bound is the end of the last whole row: so a byte is below it if its row begins by 256 - base.
 fn spelled(byte: u8, base: Base) -> Option<u8>
-    ensures { λ r. ⌜ r ≡ cond (ltb byte (bound (base .value))) (Some (byte % base .value)) None ⌝ }
+    ensures { result ≡ (if nat_lt byte (bound base.value) then Some (byte % base.value) else None) }
 {
     let digit = byte % base.value;
     let row = byte - digit;
@@ -67,9 +64,9 @@ fn spelled(byte: u8, base: Base) -> Option<u8>
 // Draws a digit: the first byte below 256 - 256 % base, mod the base. Bytes before it are thrown away.
 // At the tape's end `None`, and the tape is empty.
 pub fn draw_digit<T: Tape>(tape: &mut T, base: Base) -> Option<u8>
-    ensures answers { λ r. ⌜ r ≡ value-of (digit (base .value) (bytes (now (tape .entry)))) ⌝ }
-    ensures leaves { λ _. ⌜ bytes (now (tape .exit)) ≡ rest-of (digit (base .value) (bytes (now (tape .entry)))) ⌝ }
-    ensures fair { λ _. ⌜ Fair (base .value) ⌝ }
+    ensures answers { result ≡ value_of (digit base.value (bytes tape.old)) }
+    ensures leaves { bytes tape.new ≡ rest_of (digit base.value (bytes tape.old)) }
+    ensures fair { Fair base.value }
 {
     loop {
         let byte = tape.next()?;

@@ -1,6 +1,8 @@
 // The practice tape: an arithmetic run of bytes, for trials that anybody can repeat.
-ghost use mathlib.Core.Path.{_≡_};
-ghost use Rattle·tapes·specs.Tapes.{arithmetic-run};
+ghost use Rattle.std.specs.Prelude.{◌≡◌};
+ghost use Rattle.tapes.specs.Tapes.{arithmetic_run};
+ghost use Rattle.tapes.specs.Runs.{run_below};
+
 use crate::Tape;
 
 // A tape of `count` bytes, each by `step` more than the one before it, around 256. Like every tape it cannot be copied.
@@ -14,14 +16,16 @@ pub struct PracticeTape {
 impl PracticeTape {
     // A tape on which `count` bytes wait: `byte` first, then each by `step` more, mod 256.
     pub fn new(byte: u8, step: u8, count: u32) -> Self
-        ensures waits { λ r. ⌜ arithmetic-run (r .byte) (r .step) (r .count) ≡ arithmetic-run byte step count ⌝ }
+        ensures waits { arithmetic_run result.byte result.step result.count ≡ arithmetic_run byte step count }
     {
         PracticeTape { byte, step, count }
     }
 }
 
-pub impl Tape for PracticeTape as PracticeTapeTape {
-    ghost bytes = { λ t. arithmetic-run (t .byte) (t .step) (t .count) };
+impl Tape for PracticeTape {
+    ghost bytes = { λ t. arithmetic_run t.byte t.step t.count };
+
+    ghost below = { λ t. run_below t.byte t.step t.count };
 
     fn next(&mut self) -> Option<u8> {
         if self.count == 0 {

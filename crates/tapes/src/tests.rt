@@ -1,20 +1,20 @@
 // Tapes, digits and orders on examples.
 use crate::*;
-use std::test::*;
+use std::test::Fail;
 
 #[test]
-fn practice_tape_runs_around() -> Result<(), Fail> {
+fn practice_tape_runs_around(rt: HostRuntime) {
     let mut tape = PracticeTape::new(250, 3, 3);
-    check_eq(tape.waiting(), 3)?;
-    check_eq(tape.next(), Some(250))?;
-    check_eq(tape.next(), Some(253))?;
-    check_eq(tape.next(), Some(0))?;
-    check_eq(tape.next(), None)?;
-    check_eq(tape.waiting(), 0)
+    assert_eq!(rt; tape.waiting(), 3);
+    assert_eq!(rt; tape.next(), Some(250));
+    assert_eq!(rt; tape.next(), Some(253));
+    assert_eq!(rt; tape.next(), Some(0));
+    assert_eq!(rt; tape.next(), None);
+    assert_eq!(rt; tape.waiting(), 0);
 }
 
 #[test]
-fn bases() -> Result<(), Fail> {
+fn bases(rt: HostRuntime) {
     for (number, is_base) in [
         (0, false),
         (1, false),
@@ -23,61 +23,61 @@ fn bases() -> Result<(), Fail> {
         (129, false),
         (255, false),
     ] {
-        check_eq(Base::new(number).is_some(), is_base)?;
+        assert_eq!(rt; Base::new(number).is_some(), is_base);
     }
-    Ok(())
 }
 
 #[test]
-fn digit_throws_bytes_away(rt: LibcRuntime) -> Result<(), Fail> {
+fn digit_throws_bytes_away(rt: HostRuntime) -> Result<(), Fail> {
     let Some(base) = Base::new(3) else {
         return Err(Fail::new("3 is a base"));
     };
     let mut tape = NoiseTape::new([255, 254].to_vec(rt.alloc())?);
-    check_eq(draw_digit(&mut tape, base), Some(2))?;
-    check_eq(tape.waiting(), 0)?;
-    check_eq(draw_digit(&mut tape, base), None)
-}
-
-#[test]
-fn order_of_four_columns(rt: LibcRuntime) -> Result<(), Fail> {
-    let mut tape = NoiseTape::new([254, 255, 0, 7, 9].to_vec(rt.alloc())?);
-    let mut order = [0; 4];
-    check_eq(draw_order(&mut tape, &mut order), Some(()))?;
-    check_eq(order, [2, 0, 3, 1])?;
-    check_eq(tape.waiting(), 1)
-}
-
-#[test]
-fn order_at_the_tape_end() -> Result<(), Fail> {
-    let mut tape = PracticeTape::new(1, 0, 1);
-    let mut order = [7; 3];
-    check_eq(draw_order(&mut tape, &mut order), None)?;
-    check_eq(order, [0; 3])?;
-    check_eq(tape.waiting(), 0)?;
-    let mut one = [7];
-    check_eq(draw_order(&mut tape, &mut one), Some(()))?;
-    check_eq(one, [0])
-}
-
-#[test]
-fn order_of_most_columns() -> Result<(), Fail> {
-    let mut tape = PracticeTape::new(0, 0, 127);
-    let mut order = [7; 128];
-    check_eq(draw_order(&mut tape, &mut order), Some(()))?;
-    check_eq(tape.waiting(), 0)?;
-    for column in 0..128 {
-        check_eq(order[column], column as u8)?;
-    }
+    assert_eq!(rt; draw_digit(&mut tape, base), Some(2));
+    assert_eq!(rt; tape.waiting(), 0);
+    assert_eq!(rt; draw_digit(&mut tape, base), None);
     Ok(())
 }
 
 #[test]
-fn no_block() -> Result<(), Fail> {
+fn order_of_four_columns(rt: HostRuntime) -> Result<(), Fail> {
+    let mut tape = NoiseTape::new([254, 255, 0, 7, 9].to_vec(rt.alloc())?);
+    let mut order = [0; 4];
+    assert_eq!(rt; draw_order(&mut tape, &mut order), Some(()));
+    assert_eq!(rt; order, [2, 0, 3, 1]);
+    assert_eq!(rt; tape.waiting(), 1);
+    Ok(())
+}
+
+#[test]
+fn order_at_the_tape_end(rt: HostRuntime) {
+    let mut tape = PracticeTape::new(1, 0, 1);
+    let mut order = [7; 3];
+    assert_eq!(rt; draw_order(&mut tape, &mut order), None);
+    assert_eq!(rt; order, [0; 3]);
+    assert_eq!(rt; tape.waiting(), 0);
+    let mut one = [7];
+    assert_eq!(rt; draw_order(&mut tape, &mut one), Some(()));
+    assert_eq!(rt; one, [0]);
+}
+
+#[test]
+fn order_of_most_columns(rt: HostRuntime) {
+    let mut tape = PracticeTape::new(0, 0, 127);
+    let mut order = [7; 128];
+    assert_eq!(rt; draw_order(&mut tape, &mut order), Some(()));
+    assert_eq!(rt; tape.waiting(), 0);
+    for column in 0..128 {
+        assert_eq!(rt; order[column], column as u8);
+    }
+}
+
+#[test]
+fn no_block(rt: HostRuntime) {
     let mut tape = PracticeTape::new(0, 1, 200);
     let mut order = [7; 129];
-    check_eq(draw_order(&mut tape, &mut order), None)?;
-    check_eq(order, [7; 129])?;
-    check_eq(draw_order(&mut tape, &mut order[0..0]), None)?;
-    check_eq(tape.waiting(), 200)
+    assert_eq!(rt; draw_order(&mut tape, &mut order), None);
+    assert_eq!(rt; order, [7; 129]);
+    assert_eq!(rt; draw_order(&mut tape, &mut order[0..0]), None);
+    assert_eq!(rt; tape.waiting(), 200);
 }

@@ -1,6 +1,5 @@
 -- The bytes of a linear congruential generator: the highest byte of each state.
-use mathlib.Core.List.{List, [], _∷_}
-use Prim.Native.Nat.{ℕ, zero, suc, _+_, _*_, _/_, _%_, _^_}
+use Rattle.std.specs.Prelude.{ℕ, zero, suc, ◌+◌, ◌*◌, ◌/◌, ◌%◌, ◌^◌, List, [], ◌∷◌}
 
 abbrev pub generated : (state count : ℕ) → List ℕ
 generated s zero = []

@@ -1,1 +1,2 @@
 pub mod Generated
+pub mod Generating

@@ -1,13 +1,12 @@
 // One row of the maker for a caller in another language, and a tape that costs next to nothing, to time a row by.
-ghost use mathlib.Core.Path.{_≡_};
-ghost use Prim.Native.Nat.{_≤_};
-ghost use Rattle·schemes.specs.AllOf.{all-of};
-ghost use Rattle·runs.specs.Runs.{fresh, outcome, row as row-call};
-ghost use Rattle·timing·specs.Generated.{generated};
-use maker::Maker;
-use maker::RowRefusal;
+ghost use Rattle.std.specs.Prelude.{◌≡◌, ◌≤◌};
+ghost use Rattle.schemes.specs.AllOf.{all_of};
+ghost use Rattle.runs.specs.Runs.{fresh, outcome, row as row-call};
+ghost use Rattle.timing.specs.Generated.{generated};
+ghost use Rattle.timing.specs.Generating.{generated_below};
+
+use maker::{Maker, RowRefusal};
 use schemes::AllOf;
-use schemes::AllOfScheme;
 use tapes::Tape;
 
 // Bytes of a linear congruential generator: like noise to a branch predictor, and no noise at all to anybody else.
@@ -17,8 +16,10 @@ pub struct GeneratedTape {
     count: u32,
 }
 
-pub impl Tape for GeneratedTape as GeneratedTapeTape {
-    ghost bytes = { λ t. generated (t .state) (t .count) };
+impl Tape for GeneratedTape {
+    ghost bytes = { λ t. generated t.state t.count };
+
+    ghost below = { λ t. generated_below t.state t.count };
 
     fn next(&mut self) -> Option<u8> {
         if self.count == 0 {
@@ -44,7 +45,7 @@ fn make_row(
     out: &mut [u8],
     work: &mut [u8],
 ) -> Result<u32, RowRefusal>
-    ensures output { λ _. ⌜ now (out .exit) ≡ outcome (all-of (scheme .n)) width 1 (fresh (generated (tape .state) (tape .count))) (row-call (now (secret .entry)) (now (out .entry)) (now (work .entry))) .out ⌝ }
+    ensures output { out.new ≡ (outcome (all_of scheme.n) width 1 (fresh (generated tape.state tape.count)) (row-call secret.now out.old work.old)).out }
 {
     let mut maker = Maker::new(scheme, tape, width, 1);
     maker.row(secret, out, work)
@@ -61,7 +62,7 @@ pub extern "C" fn weldlatch_row(
     out: &mut [u8],
     work: &mut [u8],
 ) -> u8
-    ensures output { λ _. ⌜ (1 ≤ n → n ≤ 8 → now (out .exit) ≡ outcome (all-of n) width 1 (fresh (generated state count)) (row-call (now (secret .entry)) (now (out .entry)) (now (work .entry))) .out) ⌝ }
+    ensures output { 1 ≤ n → n ≤ 8 → out.new ≡ (outcome (all_of n) width 1 (fresh (generated state count)) (row-call secret.now out.old work.old)).out }
 {
     let scheme = match AllOf::new(n) {
         Ok(scheme) => scheme,

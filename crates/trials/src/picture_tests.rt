@@ -1,14 +1,6 @@
 // Picture files, films and heads by example: each fault at its place, what is opened, the limits of sides, and the texts.
-use pictures::HeadRefusal;
-use pictures::HeadRefusalDisplay;
-use pictures::Picture;
-use pictures::PictureFault;
-use pictures::PictureFaultDisplay;
-use pictures::PictureRefusal;
-use pictures::head;
-use pictures::open;
-use pictures::open_film;
-use std::test::*;
+use pictures::{HeadRefusal, Picture, PictureFault, PictureRefusal, head, open, open_film};
+use std::test::Fail;
 
 // Number and place of the fault, and 0 at 0 of a file that is opened.
 fn fault(answer: Result<Picture<'_>, PictureFault>) -> (u8, usize) {
@@ -19,7 +11,7 @@ fn fault(answer: Result<Picture<'_>, PictureFault>) -> (u8, usize) {
 }
 
 #[test]
-fn faults() -> Result<(), Fail> {
+fn faults(rt: HostRuntime) {
     for (file, number, place) in [
         ("Q4 8 1 x", 1, 0),
         ("P1", 1, 0),
@@ -41,15 +33,19 @@ fn faults() -> Result<(), Fail> {
         ("P4 1 1 x", 0, 0),
         ("P4#9 9\n#\n 8\r#\r8\n#\n1\tx", 0, 0),
     ] {
-        check_eq(fault(open(file.as_bytes())), (number, place)).note(file)?;
-        check_eq(fault(open_film(file.as_bytes())), (number, place)).note(file)?;
+        assert_eq!(rt; fault(open(file.as_bytes())), (number, place), "{}", file);
+        assert_eq!(rt;
+            fault(open_film(file.as_bytes())),
+            (number, place),
+            "{}",
+            file
+        );
     }
-    Ok(())
 }
 
 // Of rows of so many zeros: what the reader of pictures answers, and that of films.
 #[test]
-fn limits(rt: LibcRuntime) -> Result<(), Fail> {
+fn limits(rt: HostRuntime) -> Result<(), Fail> {
     for (head, rows, picture, film) in [
         ("P4 4096 4096\n", 4096 * 512, (0, 0), (0, 0)),
         ("P4 4096 4096\n", 4096 * 512 + 1, (5, 2097165), (5, 2097165)),
@@ -61,14 +57,14 @@ fn limits(rt: LibcRuntime) -> Result<(), Fail> {
     ] {
         let mut file = Vec::from_slice(rt.alloc(), head.as_bytes())?;
         file.resize(head.len() + rows, 0)?;
-        check_eq(fault(open(&file)), picture).note(head)?;
-        check_eq(fault(open_film(&file)), film).note(head)?;
+        assert_eq!(rt; fault(open(&file)), picture, "{}", head);
+        assert_eq!(rt; fault(open_film(&file)), film, "{}", head);
     }
     Ok(())
 }
 
 #[test]
-fn long_numbers(rt: LibcRuntime) -> Result<(), Fail> {
+fn long_numbers(rt: HostRuntime) -> Result<(), Fail> {
     for (digit, end, answer) in [
         (b'0', "8 1 x", (0, 0)),
         (b'0', "8 1 ", (4, 5004)),
@@ -78,29 +74,35 @@ fn long_numbers(rt: LibcRuntime) -> Result<(), Fail> {
         let mut file = Vec::from_slice(rt.alloc(), b"P4 ")?;
         file.resize(5000, digit)?;
         file.extend_from_slice(end.as_bytes())?;
-        check_eq(fault(open(&file)), answer)?;
-        check_eq(fault(open_film(&file)), answer)?;
+        assert_eq!(rt; fault(open(&file)), answer);
+        assert_eq!(rt; fault(open_film(&file)), answer);
     }
     Ok(())
 }
 
 #[test]
-fn rows() -> Result<(), Fail> {
+fn rows(rt: HostRuntime) -> Result<(), Fail> {
     let picture = match open(b"P4\n# a comment\n0009 \n002\nabcd") {
         Ok(picture) => picture,
         Err(fault) => return Err(Fail::new(fault)),
     };
-    check_eq((picture.width(), picture.height()), (9, 2))?;
-    check(picture.rows() == b"abcd")?;
+    assert_eq!(rt; (picture.width(), picture.height()), (9, 2));
+    assert!(rt; picture.rows() == b"abcd");
     for (y, row) in [(0, "ab"), (1, "cd")] {
         match picture.row(y) {
-            Ok(bytes) => check(bytes == row.as_bytes())?,
+            Ok(bytes) => assert!(rt; bytes == row.as_bytes()),
             Err(fault) => return Err(Fail::new(fault)),
         }
     }
     match picture.row(2) {
-        Ok(_) => check(false),
-        Err(fault) => check_eq((fault.refusal.number(), fault.place), (6, 0)),
+        Ok(_) => {
+            assert!(rt; false);
+            Ok(())
+        },
+        Err(fault) => {
+            assert_eq!(rt; (fault.refusal.number(), fault.place), (6, 0));
+            Ok(())
+        },
     }
 }
 
@@ -113,16 +115,16 @@ fn answer(buf: &mut [u8], w: u32, h: u32) -> (usize, u8) {
 }
 
 #[test]
-fn heads() -> Result<(), Fail> {
+fn heads(rt: HostRuntime) {
     let mut buf = [7; 15];
-    check_eq(answer(&mut buf, 32768, 4096), (14, 0))?;
-    check_eq(buf, *b"P4\n32768 4096\n\x07")?;
-    check_eq(answer(&mut buf, 1, 20), (8, 0))?;
-    check_eq(buf, *b"P4\n1 20\n 4096\n\x07")
+    assert_eq!(rt; answer(&mut buf, 32768, 4096), (14, 0));
+    assert_eq!(rt; buf, *b"P4\n32768 4096\n\x07");
+    assert_eq!(rt; answer(&mut buf, 1, 20), (8, 0));
+    assert_eq!(rt; buf, *b"P4\n1 20\n 4096\n\x07");
 }
 
 #[test]
-fn head_refusals() -> Result<(), Fail> {
+fn head_refusals(rt: HostRuntime) {
     for (w, h, number) in [
         (32768, 4096, 34),
         (0, 1, 33),
@@ -131,25 +133,26 @@ fn head_refusals() -> Result<(), Fail> {
         (1, 4097, 33),
     ] {
         let mut buf = [7; 13];
-        check_eq(answer(&mut buf, w, h), (0, number))?;
-        check_eq(buf, [7; 13])?;
+        assert_eq!(rt; answer(&mut buf, w, h), (0, number));
+        assert_eq!(rt; buf, [7; 13]);
     }
-    check_eq(answer(&mut [], 0, 0), (0, 33))
+    assert_eq!(rt; answer(&mut [], 0, 0), (0, 33));
 }
 
 #[test]
-fn texts(rt: LibcRuntime) -> Result<(), Fail> {
+fn texts(rt: HostRuntime) -> Result<(), Fail> {
     let heap = rt.alloc();
     let fault = PictureFault {
         refusal: PictureRefusal::NumberOutside,
         place: 5,
     };
-    check_eq(
+    assert_eq!(rt;
         fault.to_string(heap)?.as_str(),
-        "refused 3 at 5: a side is outside its limits: 1 to 4096, the width of a film 1 to 32768",
-    )?;
-    check_eq(
+        "refused 3 at 5: a side is outside its limits: 1 to 4096, the width of a film 1 to 32768"
+    );
+    assert_eq!(rt;
         HeadRefusal::BufferShort.to_string(heap)?.as_str(),
-        "refused 34: the buffer is too short for the head",
-    )
+        "refused 34: the buffer is too short for the head"
+    );
+    Ok(())
 }

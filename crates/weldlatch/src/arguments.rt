@@ -1,10 +1,7 @@
 // Words of the command line: numbers, sets of keyholders, and the option `--force`.
 use crate::failure::Failure;
-use crate::failure::FailureFromAlloc;
-use crate::failure::FailureFromRefused;
 use schemes::KeyholderSet;
-use words::keyholders;
-use words::number;
+use words::{keyholders, number};
 
 // A number, or the usage.
 pub(crate) fn number_of(word: &String) -> Result<u32, Failure> {
@@ -25,17 +22,17 @@ pub(crate) fn byte_of(word: &String) -> Result<u8, Failure> {
 }
 
 // The set of keyholders that a word names.
-pub(crate) fn set_of(rt: &LibcRuntime, word: &String) -> Result<KeyholderSet, Failure> {
+pub(crate) fn set_of(rt: &HostRuntime, word: &String) -> Result<KeyholderSet, Failure> {
     let Some(set) = keyholders(word.as_bytes()) else {
-        return Err(Failure::Told(
-            format!(rt.alloc(), "{word} is no set of keyholders 1 to 8, as 1,3")?,
-        ));
+        return Err(Failure::Told(format!(in rt.alloc();
+            "{word} is no set of keyholders 1 to 8, as 1,3"
+        )?));
     };
     Ok(set)
 }
 
 // The sets that the words name, in their order.
-pub(crate) fn sets_of(rt: &LibcRuntime, words: &[String]) -> Result<Vec<KeyholderSet>, Failure> {
+pub(crate) fn sets_of(rt: &HostRuntime, words: &[String]) -> Result<Vec<KeyholderSet>, Failure> {
     let mut sets = Vec::new(rt.alloc());
     for word in words {
         sets.push(set_of(rt, word)?)?;

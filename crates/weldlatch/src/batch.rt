@@ -1,11 +1,6 @@
 // The command `batch`: commands from a file, one to a line.
-use crate::commands;
-use crate::failure::Failure;
-use crate::failure::FailureFromAlloc;
-use crate::failure::FailureFromIo;
-use crate::failure::FailureFromRefused;
-use crate::failure::told_of;
-use crate::files;
+use crate::failure::{Failure, told_of};
+use crate::{commands, files};
 use std::alloc::Global;
 
 // The words of a line.
@@ -18,7 +13,7 @@ fn words_of(heap: Global, line: &str) -> Result<Vec<String>, Failure> {
 }
 
 // `batch FILE`: prints each line and does what it asks, up to the first that fails. Empty lines are passed over.
-pub(crate) fn run(rt: &LibcRuntime, words: &[String]) -> Result<(), Failure> {
+pub(crate) fn run(rt: &HostRuntime, words: &[String]) -> Result<(), Failure> {
     let [name] = words else {
         return Err(Failure::Usage);
     };
@@ -27,7 +22,7 @@ pub(crate) fn run(rt: &LibcRuntime, words: &[String]) -> Result<(), Failure> {
     for line in text.lines() {
         let words = words_of(rt.alloc(), line)?;
         if !words.is_empty() {
-            println!(rt, "> {line}")?;
+            println!(rt; "> {line}")?;
             commands::run(rt, &words)?;
         }
     }

@@ -1,16 +1,11 @@
 // The command `card`: writes a card file.
-use crate::arguments;
-use crate::failure::Failure;
-use crate::failure::told;
-use crate::files;
-use cards::Card;
-use cards::CardFaultDisplay;
-use cards::CardKind;
-use schemes::KeyholderSetOrd;
+use crate::failure::{Failure, told};
+use crate::{arguments, files};
+use cards::{Card, CardKind};
 
 // What the words `all N`, `two N` and `sets N SET..` say, with the sets in the order of the words.
 pub(crate) fn card_of(
-    rt: &LibcRuntime,
+    rt: &HostRuntime,
     kind: &String,
     n: &String,
     sets: &[String],
@@ -27,7 +22,7 @@ pub(crate) fn card_of(
 }
 
 // `card [--force] OUT all N`, and so on. A card has its sets in rising order, however they are given.
-pub(crate) fn run(rt: &LibcRuntime, words: &[String]) -> Result<(), Failure> {
+pub(crate) fn run(rt: &HostRuntime, words: &[String]) -> Result<(), Failure> {
     let (force, words) = arguments::force(words);
     let [out, kind, n, sets @ ..] = words else {
         return Err(Failure::Usage);

@@ -1,27 +1,17 @@
 // The commands by their names.
-use crate::card;
 use crate::failure::Failure;
-use crate::failure::FailureFromIo;
-use crate::levels;
-use crate::make;
-use crate::order;
-use crate::practice;
-use crate::read;
-use crate::scheme;
-use crate::show;
-use crate::stack;
-use crate::usage;
+use crate::{card, levels, make, order, practice, read, scheme, show, stack, usage};
 
 // Does what the words ask. No words ask for help.
-pub(crate) fn run(rt: &LibcRuntime, words: &[String]) -> Result<(), Failure> {
+pub(crate) fn run(rt: &HostRuntime, words: &[String]) -> Result<(), Failure> {
     let [command, rest @ ..] = words else {
-        println!(rt, "{}", usage::TEXT)?;
+        println!(rt; "{}", usage::TEXT)?;
         return Ok(());
     };
     match command.as_str() {
         "card" => card::run(rt, rest),
         "help" | "--help" | "-h" => {
-            println!(rt, "{}", usage::TEXT)?;
+            println!(rt; "{}", usage::TEXT)?;
             Ok(())
         }
         "levels" => levels::run(rt, rest),

@@ -1,9 +1,7 @@
 // Why the program ends with status 1, and what it then says.
 use crate::usage;
-use std::alloc::AllocError;
-use std::alloc::Refused;
-use std::fmt;
-use std::io;
+use std::alloc::{AllocError, AllocFailed};
+use std::{fmt, io};
 
 #[derive(Drop)]
 pub enum Failure {
@@ -19,46 +17,46 @@ pub enum Failure {
 
 // What a call answered, or its refusal in words.
 pub(crate) fn told<T, E: fmt::Display + Drop>(
-    rt: &LibcRuntime,
+    rt: &HostRuntime,
     answer: Result<T, E>,
 ) -> Result<T, Failure> {
     match answer {
         Ok(value) => Ok(value),
-        Err(why) => Err(Failure::Told(format!(rt.alloc(), "{why}")?)),
+        Err(why) => Err(Failure::Told(format!(in rt.alloc(); "{why}")?)),
     }
 }
 
 // The same, with the name of the file that it is about.
 pub(crate) fn told_of<T, E: fmt::Display + Drop>(
-    rt: &LibcRuntime,
+    rt: &HostRuntime,
     name: &str,
     answer: Result<T, E>,
 ) -> Result<T, Failure> {
     match answer {
         Ok(value) => Ok(value),
-        Err(why) => Err(Failure::Told(format!(rt.alloc(), "{why} ({name})")?)),
+        Err(why) => Err(Failure::Told(format!(in rt.alloc(); "{why} ({name})")?)),
     }
 }
 
-pub impl From<io::Error> for Failure as FailureFromIo {
+impl From<io::Error> for Failure {
     fn from(why: io::Error) -> Failure {
         Failure::Io(why)
     }
 }
 
-pub impl From<AllocError> for Failure as FailureFromAlloc {
+impl From<AllocError> for Failure {
     fn from(_why: AllocError) -> Failure {
         Failure::Memory
     }
 }
 
-pub impl<T: Drop> From<Refused<T>> for Failure as FailureFromRefused {
-    fn from(_why: Refused<T>) -> Failure {
+impl<T: Drop> From<AllocFailed<T>> for Failure {
+    fn from(_why: AllocFailed<T>) -> Failure {
         Failure::Memory
     }
 }
 
-pub impl fmt::Display for Failure as FailureDisplay {
+impl fmt::Display for Failure {
     fn fmt<W: fmt::Write>(&self, f: &mut fmt::Formatter<W>) -> fmt::Result {
         match self {
             Failure::Usage => write!(f, "{}", usage::TEXT),

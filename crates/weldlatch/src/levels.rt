@@ -1,27 +1,21 @@
 // The command `levels`: light, dark and squares of a set, or of every minimal qualified set.
 use crate::arguments;
-use crate::failure::Failure;
-use crate::failure::FailureFromAlloc;
-use crate::failure::FailureFromIo;
-use crate::failure::told;
+use crate::failure::{Failure, told};
 use crate::scheme::open_card;
 use cards::CardScheme;
-use cards::CardSchemeScheme;
 use films::minimal_sets;
-use lightbox::ContrastRefusalDisplay;
 use lightbox::contrast;
 use schemes::KeyholderSet;
-use schemes::KeyholderSetDisplay;
 
 // The contrast of one set.
-fn print_levels(rt: &LibcRuntime, scheme: &CardScheme, set: KeyholderSet) -> Result<(), Failure> {
+fn print_levels(rt: &HostRuntime, scheme: &CardScheme, set: KeyholderSet) -> Result<(), Failure> {
     let (light, dark, m) = told(rt, contrast(scheme, set))?;
-    println!(rt, "set {set}: light {light} dark {dark} of {m} squares")?;
+    println!(rt; "set {set}: light {light} dark {dark} of {m} squares")?;
     Ok(())
 }
 
 // `levels CARD`, `levels CARD KEYHOLDERS`
-pub(crate) fn run(rt: &LibcRuntime, words: &[String]) -> Result<(), Failure> {
+pub(crate) fn run(rt: &HostRuntime, words: &[String]) -> Result<(), Failure> {
     match words {
         [card] => {
             let scheme = open_card(rt, card.as_str())?;

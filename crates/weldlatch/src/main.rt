@@ -19,12 +19,9 @@ mod stack;
 mod usage;
 
 use failure::Failure;
-use failure::FailureDisplay;
-use failure::FailureFromAlloc;
-use failure::FailureFromIo;
 use std::env;
 
-fn run(rt: &LibcRuntime) -> Result<(), Failure> {
+fn run(rt: &HostRuntime) -> Result<(), Failure> {
     let mut args = env::args(rt)?;
     let _program = args.next();
     let words: Vec<String> = args.collect(rt.alloc())?;
@@ -35,10 +32,10 @@ fn run(rt: &LibcRuntime) -> Result<(), Failure> {
 }
 
 // A failure goes to standard error, and ends the program with status 1.
-fn main(rt: LibcRuntime) -> Result<(), Failure> {
+fn main(rt: HostRuntime) -> Result<(), Failure> {
     let result = run(&rt);
     if let Err(failure) = &result {
-        eprintln!(rt, "{failure}")?;
+        eprintln!(rt; "{failure}")?;
     }
     result
 }

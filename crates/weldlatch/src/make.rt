@@ -1,38 +1,16 @@
 // The command `make`: films from a card, a picture and a tape. Every row is read back before it counts, and nothing is
 // written unless the run is full.
-use crate::arguments;
-use crate::failure::Failure;
-use crate::failure::FailureFromAlloc;
-use crate::failure::FailureFromIo;
-use crate::failure::told;
-use crate::failure::told_of;
-use crate::files;
+use crate::failure::{Failure, told, told_of};
 use crate::progress::Progress;
-use crate::report;
-use cards::CardFaultDisplay;
+use crate::{arguments, files, report};
 use cards::CardScheme;
-use cards::CardSchemeScheme;
-use films::FileFaultDisplay;
-use films::film_rows;
-use films::minimal_sets;
-use films::picture_file;
-use maker::Closed;
-use maker::Maker;
-use maker::RowRefusalDisplay;
+use films::{FileFaultDisplay, film_rows, minimal_sets, picture_file};
+use maker::{Closed, Maker};
 use pictures::Picture;
-use pictures::PictureFaultDisplay;
 use readback::read_back;
-use schemes::KeyholderSet;
-use schemes::KeyholderSetDisplay;
-use schemes::Scheme;
-use schemes::bit_at;
-use schemes::bytes_for;
-use schemes::strip_size;
-use std::alloc::AllocError;
-use std::alloc::Global;
-use tapes::NoiseTape;
-use tapes::NoiseTapeTape;
-use tapes::Tape;
+use schemes::{KeyholderSet, Scheme, bit_at, bytes_for, strip_size};
+use std::alloc::{AllocError, Global};
+use tapes::{NoiseTape, Tape};
 
 // Reads rows back: a scheme, its minimal qualified sets, a glass, and the row that is read from it.
 #[derive(Drop)]
@@ -89,7 +67,7 @@ fn blind_set(reader: &mut Reader, secret: &[u8], strips: &[u8]) -> Option<Keyhol
 
 // Makes every row of the picture, reads it back, and keeps the strips of all films, row after row.
 fn make_rows(
-    rt: &LibcRuntime,
+    rt: &HostRuntime,
     tape: NoiseTape,
     scheme: CardScheme,
     reader: &mut Reader,
@@ -106,10 +84,14 @@ fn make_rows(
     for y in 0..picture.height() {
         let secret = told(rt, picture.row(y))?;
         if let Err(why) = maker.row(secret, &mut out, &mut work) {
-            return Err(Failure::Told(format!(heap, "{why} (row {y}, a tape of {supply} bytes)")?));
+            return Err(Failure::Told(format!(in heap;
+                "{why} (row {y}, a tape of {supply} bytes)"
+            )?));
         }
         if let Some(set) = blind_set(reader, secret, &out) {
-            return Err(Failure::Told(format!(heap, "row {y} does not read back through {set}")?));
+            return Err(Failure::Told(format!(in heap;
+                "row {y} does not read back through {set}"
+            )?));
         }
         strips.extend_from_slice(&out)?;
         progress.report(rt, y.saturating_add(1), picture.height())?;
@@ -118,13 +100,13 @@ fn make_rows(
 }
 
 // The run ended before every row was made.
-fn broken_off(rt: &LibcRuntime) -> Result<Failure, AllocError> {
-    Ok(Failure::Told(format!(rt.alloc(), "the run ended before every row was made")?))
+fn broken_off(rt: &HostRuntime) -> Result<Failure, AllocError> {
+    Ok(Failure::Told(format!(in rt.alloc(); "the run ended before every row was made")?))
 }
 
 // The file of a keyholder's film.
 fn film_name(heap: Global, prefix: &str, keyholder: u8) -> Result<String, AllocError> {
-    format!(heap, "{prefix}{keyholder}.pbm")
+    format!(in heap; "{prefix}{keyholder}.pbm")
 }
 
 // The size of a page of films: keyholders, bytes of a strip, width in squares, and rows.
@@ -138,7 +120,7 @@ struct FilmSize {
 
 // The film of a keyholder as a picture file.
 fn film_file(
-    rt: &LibcRuntime,
+    rt: &HostRuntime,
     strips: &[u8],
     size: FilmSize,
     keyholder: u8,
@@ -154,7 +136,7 @@ fn film_file(
 
 // Writes every film under the name that it has until it is whole.
 fn write_films(
-    rt: &LibcRuntime,
+    rt: &HostRuntime,
     strips: &[u8],
     size: FilmSize,
     prefix: &str,
@@ -169,7 +151,7 @@ fn write_films(
 
 // Gives the films their names, and says which files they are; or takes all of them back.
 fn finish_films(
-    rt: &LibcRuntime,
+    rt: &HostRuntime,
     size: FilmSize,
     prefix: &str,
     whole: bool,
@@ -178,7 +160,7 @@ fn finish_films(
         let name = film_name(rt.alloc(), prefix, keyholder)?;
         if whole {
             files::finish_part(rt, name.as_str())?;
-            println!(rt, "wrote {name}")?;
+            println!(rt; "wrote {name}")?;
         } else {
             files::discard_part(rt, name.as_str())?;
         }
@@ -190,7 +172,7 @@ fn finish_films(
 fn sets_text(heap: Global, sets: &[KeyholderSet]) -> Result<String, AllocError> {
     let mut text = String::new(heap);
     for set in sets {
-        let word = format!(heap, " {set}")?;
+        let word = format!(in heap; " {set}")?;
         text.push_str(word.as_str())?;
     }
     Ok(text)
@@ -198,7 +180,7 @@ fn sets_text(heap: Global, sets: &[KeyholderSet]) -> Result<String, AllocError> 
 
 // What a full run did.
 fn print_report(
-    rt: &LibcRuntime,
+    rt: &HostRuntime,
     reader: &Reader,
     closed: Closed,
     size: FilmSize,
@@ -215,19 +197,16 @@ fn print_report(
     } = size;
     let Closed { made, taken, .. } = closed;
     let sets = sets_text(rt.alloc(), &reader.sets)?;
-    println!(rt, "{name} {n}, {m} columns")?;
-    println!(
-        rt,
-        "picture {width} by {height}, films {squares} by {height}"
-    )?;
-    println!(rt, "rows made {made}, bytes taken {taken} of {supply}")?;
-    println!(rt, "every row read back through{sets}")?;
+    println!(rt; "{name} {n}, {m} columns")?;
+    println!(rt; "picture {width} by {height}, films {squares} by {height}")?;
+    println!(rt; "rows made {made}, bytes taken {taken} of {supply}")?;
+    println!(rt; "every row read back through{sets}")?;
     Ok(())
 }
 
 // Makes the films of an open picture.
 fn make(
-    rt: &LibcRuntime,
+    rt: &HostRuntime,
     schemes: (CardScheme, CardScheme),
     picture: &Picture<'_>,
     noise: Vec<u8>,
@@ -259,7 +238,7 @@ fn make(
 }
 
 // `make [--force] CARD PICTURE TAPE PREFIX`
-pub(crate) fn run(rt: &LibcRuntime, words: &[String]) -> Result<(), Failure> {
+pub(crate) fn run(rt: &HostRuntime, words: &[String]) -> Result<(), Failure> {
     let (force, words) = arguments::force(words);
     let [card, picture, tape, prefix] = words else {
         return Err(Failure::Usage);

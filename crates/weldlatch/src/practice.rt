@@ -1,12 +1,8 @@
 // The command `practice`: writes a practice tape. Anybody can write the same one, so it is never for real films.
-use crate::arguments;
 use crate::failure::Failure;
-use crate::failure::FailureFromRefused;
-use crate::files;
+use crate::{arguments, files};
 use std::alloc::Global;
-use tapes::PracticeTape;
-use tapes::PracticeTapeTape;
-use tapes::Tape;
+use tapes::{PracticeTape, Tape};
 
 // All bytes of a practice tape.
 fn bytes_of(heap: Global, mut tape: PracticeTape) -> Result<Vec<u8>, Failure> {
@@ -20,7 +16,7 @@ fn bytes_of(heap: Global, mut tape: PracticeTape) -> Result<Vec<u8>, Failure> {
 }
 
 // `practice [--force] OUT BYTE STEP COUNT`
-pub(crate) fn run(rt: &LibcRuntime, words: &[String]) -> Result<(), Failure> {
+pub(crate) fn run(rt: &HostRuntime, words: &[String]) -> Result<(), Failure> {
     let (force, words) = arguments::force(words);
     let [out, byte, step, count] = words else {
         return Err(Failure::Usage);

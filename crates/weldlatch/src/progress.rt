@@ -1,6 +1,5 @@
 // Progress of long work, on standard error: nothing in the first seconds, then a line a second.
 use crate::failure::Failure;
-use crate::failure::FailureFromIo;
 use std::time::Instant;
 
 // Work that takes no longer than so many seconds is not reported.
@@ -14,7 +13,7 @@ pub struct Progress {
 }
 
 impl Progress {
-    pub(crate) fn new(rt: &LibcRuntime) -> Result<Progress, Failure> {
+    pub(crate) fn new(rt: &HostRuntime) -> Result<Progress, Failure> {
         Ok(Progress {
             started: Instant::now(rt)?,
             reported: QUIET,
@@ -22,11 +21,11 @@ impl Progress {
     }
 
     // So many rows are done, of all.
-    pub(crate) fn report(&mut self, rt: &LibcRuntime, done: u32, all: u32) -> Result<(), Failure> {
+    pub(crate) fn report(&mut self, rt: &HostRuntime, done: u32, all: u32) -> Result<(), Failure> {
         let seconds = self.started.elapsed(rt)?.as_secs();
         if seconds > self.reported {
             self.reported = seconds;
-            eprintln!(rt, "weldlatch: {done} of {all} rows")?;
+            eprintln!(rt; "weldlatch: {done} of {all} rows")?;
         }
         Ok(())
     }

@@ -1,39 +1,25 @@
 // The command `read`: reads a stack of the films of some keyholders back into a picture.
-use crate::arguments;
-use crate::failure::Failure;
-use crate::failure::FailureFromAlloc;
-use crate::failure::FailureFromIo;
-use crate::failure::told;
-use crate::failure::told_of;
-use crate::files;
+use crate::failure::{Failure, told, told_of};
 use crate::scheme::open_card;
-use cards::CardSchemeScheme;
-use films::FileFaultDisplay;
-use films::picture_file;
-use lightbox::PageRefusalDisplay;
-use lightbox::read_page;
-use pictures::PictureFaultDisplay;
+use crate::{arguments, files};
+use films::{FileFaultDisplay, picture_file};
+use lightbox::{PageRefusalDisplay, read_page};
 use pictures::open_film;
-use schemes::KeyholderSetDisplay;
-use schemes::Scheme;
-use schemes::bytes_for;
+use schemes::{Scheme, bytes_for};
 
 // The width in pixels of a stack of so many squares in blocks of m.
-fn pixels_across(rt: &LibcRuntime, squares: u32, m: u8) -> Result<u32, Failure> {
+fn pixels_across(rt: &HostRuntime, squares: u32, m: u8) -> Result<u32, Failure> {
     let m = u32::from(m);
     match squares.checked_rem(m) {
         Some(0) => Ok(squares / m),
-        _ => Err(Failure::Told(
-            format!(
-                rt.alloc(),
-                "a width of {squares} squares is not made of blocks of {m}"
-            )?,
-        )),
+        _ => Err(Failure::Told(format!(in rt.alloc();
+            "a width of {squares} squares is not made of blocks of {m}"
+        )?)),
     }
 }
 
 // `read [--force] CARD KEYHOLDERS STACK OUT`
-pub(crate) fn run(rt: &LibcRuntime, words: &[String]) -> Result<(), Failure> {
+pub(crate) fn run(rt: &HostRuntime, words: &[String]) -> Result<(), Failure> {
     let (force, words) = arguments::force(words);
     let [card, keyholders, stack, out] = words else {
         return Err(Failure::Usage);
@@ -55,7 +41,7 @@ pub(crate) fn run(rt: &LibcRuntime, words: &[String]) -> Result<(), Failure> {
     let picture = told(rt, picture_file(rt.alloc(), width, height, &rows))?;
     files::write(rt, out.as_str(), &picture, force)?;
     if out.as_str() != "-" {
-        println!(rt, "read {width} by {height} through {set}\nwrote {out}")?;
+        println!(rt; "read {width} by {height} through {set}\nwrote {out}")?;
     }
     Ok(())
 }

@@ -1,16 +1,8 @@
 // Schemes as text.
 use cards::CardScheme;
-use cards::CardSchemeScheme;
 use cumulative::Cumulative;
-use cumulative::CumulativeScheme;
-use schemes::Colour;
-use schemes::KeyholderSet;
-use schemes::KeyholderSetDisplay;
-use schemes::MOST_KEYHOLDERS;
-use schemes::Scheme;
-use schemes::levels_of;
-use std::alloc::AllocError;
-use std::alloc::Global;
+use schemes::{Colour, KeyholderSet, MOST_KEYHOLDERS, Scheme, levels_of};
+use std::alloc::{AllocError, Global};
 
 // What kind of scheme it is, in words.
 pub(crate) fn name(scheme: &CardScheme) -> &'static str {
@@ -45,7 +37,7 @@ fn films<S: Scheme>(heap: Global, scheme: &S) -> Result<String, AllocError> {
     for keyholder in 1..=scheme.keyholders() {
         let white = cells(heap, scheme, Colour::White, keyholder)?;
         let black = cells(heap, scheme, Colour::Black, keyholder)?;
-        let line = format!(heap, "film {keyholder}: white {white} black {black}\n")?;
+        let line = format!(in heap; "film {keyholder}: white {white} black {black}\n")?;
         text.push_str(line.as_str())?;
     }
     Ok(text)
@@ -60,7 +52,7 @@ pub(crate) fn levels<S: Scheme>(
     let levels = levels_of(scheme, set);
     let light = levels.light;
     let dark = levels.dark;
-    format!(heap, "set {set}: light {light} dark {dark}\n")
+    format!(in heap; "set {set}: light {light} dark {dark}\n")
 }
 
 // The levels of every qualified set.
@@ -79,10 +71,10 @@ fn all_levels<S: Scheme>(heap: Global, scheme: &S) -> Result<String, AllocError>
 // The numbers of the forbidden sets that a keyholder is not in.
 fn record(heap: Global, scheme: &Cumulative, keyholder: u8) -> Result<String, AllocError> {
     let record = scheme.record(keyholder);
-    let mut text = format!(heap, "record {keyholder}:")?;
+    let mut text = format!(in heap; "record {keyholder}:")?;
     for q in 0..MOST_KEYHOLDERS {
         if record.has(q) {
-            let word = format!(heap, " {q}")?;
+            let word = format!(in heap; " {q}")?;
             text.push_str(word.as_str())?;
         }
     }
@@ -94,7 +86,7 @@ fn record(heap: Global, scheme: &Cumulative, keyholder: u8) -> Result<String, Al
 fn records(heap: Global, scheme: &Cumulative) -> Result<String, AllocError> {
     let mut text = String::new(heap);
     for (q, set) in scheme.forbidden_sets().iter().enumerate() {
-        let line = format!(heap, "forbidden {q}: {set}\n")?;
+        let line = format!(in heap; "forbidden {q}: {set}\n")?;
         text.push_str(line.as_str())?;
     }
     for keyholder in 1..=scheme.keyholders() {
@@ -109,7 +101,7 @@ pub(crate) fn card_scheme(heap: Global, scheme: &CardScheme) -> Result<String, A
     let name = name(scheme);
     let n = scheme.keyholders();
     let m = scheme.columns();
-    let mut text = format!(heap, "{name} {n}\nkeyholders {n}\ncolumns {m}\n")?;
+    let mut text = format!(in heap; "{name} {n}\nkeyholders {n}\ncolumns {m}\n")?;
     let films = films(heap, scheme)?;
     text.push_str(films.as_str())?;
     if let CardScheme::Sets(sets) = scheme {

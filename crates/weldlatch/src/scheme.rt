@@ -1,24 +1,18 @@
 // The command `scheme`: a scheme with its films and levels.
 use crate::card::card_of;
-use crate::failure::Failure;
-use crate::failure::FailureFromAlloc;
-use crate::failure::FailureFromIo;
-use crate::failure::told;
-use crate::failure::told_of;
-use crate::files;
-use crate::report;
-use cards::CardFaultDisplay;
+use crate::failure::{Failure, told, told_of};
+use crate::{files, report};
 use cards::CardScheme;
 
 // The scheme that a card file names.
-pub(crate) fn open_card(rt: &LibcRuntime, name: &str) -> Result<CardScheme, Failure> {
+pub(crate) fn open_card(rt: &HostRuntime, name: &str) -> Result<CardScheme, Failure> {
     let bytes = files::read(rt, name)?;
     let (_card, scheme) = told_of(rt, name, cards::open(rt.alloc(), &bytes))?;
     Ok(scheme)
 }
 
 // The scheme that the words name: `all N`, `two N`, `sets N SET..`, or a card file.
-fn named(rt: &LibcRuntime, words: &[String]) -> Result<CardScheme, Failure> {
+fn named(rt: &HostRuntime, words: &[String]) -> Result<CardScheme, Failure> {
     match words {
         [card] => open_card(rt, card.as_str()),
         [kind, n, sets @ ..] => {
@@ -30,8 +24,8 @@ fn named(rt: &LibcRuntime, words: &[String]) -> Result<CardScheme, Failure> {
 }
 
 // `scheme CARD`, `scheme all N`, `scheme two N`, `scheme sets N SET..`
-pub(crate) fn run(rt: &LibcRuntime, words: &[String]) -> Result<(), Failure> {
+pub(crate) fn run(rt: &HostRuntime, words: &[String]) -> Result<(), Failure> {
     let scheme = named(rt, words)?;
-    print!(rt, "{}", report::card_scheme(rt.alloc(), &scheme)?)?;
+    print!(rt; "{}", report::card_scheme(rt.alloc(), &scheme)?)?;
     Ok(())
 }

@@ -1,16 +1,11 @@
 // The command `show`: a picture in the terminal, two rows to a line, or as plain zeros and ones.
-ghost use Prim.Native.Nat.{_≤_};
-use crate::failure::Failure;
-use crate::failure::FailureFromAlloc;
-use crate::failure::FailureFromIo;
-use crate::failure::told_of;
+ghost use Rattle.std.specs.Prelude.{◌≤◌};
+
+use crate::failure::{Failure, told_of};
 use crate::files;
-use pictures::Picture;
-use pictures::PictureFaultDisplay;
-use pictures::open_film;
+use pictures::{Picture, open_film};
 use schemes::bit_at;
-use std::alloc::AllocError;
-use std::alloc::Global;
+use std::alloc::{AllocError, Global};
 
 // A line has at most so many characters; a wider picture is scaled down.
 const LINE: u32 = 160;
@@ -41,29 +36,27 @@ fn is_dark(picture: &Picture<'_>, scale: u32, x: u32, y: u32) -> bool {
 
 // One line of the drawing: two rows of squares.
 fn line(heap: Global, picture: &Picture<'_>, scale: u32, y: u32) -> Result<String, AllocError>
-    requires { ⌜ 1 ≤ scale ⌝ }
+    requires { 1 ≤ scale }
 {
     let mut text = String::new(heap);
     let below = y.saturating_add(scale);
     for x in (0..picture.width()).step_by(scale as usize) {
         let upper = is_dark(picture, scale, x, y);
         let lower = is_dark(picture, scale, x, below);
-        text.push(
-            match (upper, lower) {
-                (true, true) => '█',
-                (true, false) => '▀',
-                (false, true) => '▄',
-                (false, false) => ' ',
-            },
-        )?;
+        text.push(match (upper, lower) {
+            (true, true) => '█',
+            (true, false) => '▀',
+            (false, true) => '▄',
+            (false, false) => ' ',
+        })?;
     }
     Ok(text)
 }
 
-fn draw(rt: &LibcRuntime, picture: &Picture<'_>) -> Result<(), Failure> {
+fn draw(rt: &HostRuntime, picture: &Picture<'_>) -> Result<(), Failure> {
     let scale = picture.width().div_ceil(LINE).max(1);
     for y in (0..picture.height()).step_by(scale.saturating_mul(2) as usize) {
-        println!(rt, "{}", line(rt.alloc(), picture, scale, y)?)?;
+        println!(rt; "{}", line(rt.alloc(), picture, scale, y)?)?;
     }
     Ok(())
 }
@@ -81,13 +74,12 @@ fn zeros_and_ones(heap: Global, bits: &[u8], width: u32) -> Result<String, Alloc
     Ok(text)
 }
 
-fn print_plain(rt: &LibcRuntime, picture: &Picture<'_>) -> Result<(), Failure> {
+fn print_plain(rt: &HostRuntime, picture: &Picture<'_>) -> Result<(), Failure> {
     let width = picture.width();
     let height = picture.height();
-    println!(rt, "{width} {height}")?;
+    println!(rt; "{width} {height}")?;
     for y in 0..height {
-        println!(
-            rt,
+        println!(rt;
             "{}",
             zeros_and_ones(rt.alloc(), row_of(picture, y), width)?
         )?;
@@ -96,7 +88,7 @@ fn print_plain(rt: &LibcRuntime, picture: &Picture<'_>) -> Result<(), Failure> {
 }
 
 // `show PICTURE`, `show --plain PICTURE`
-pub(crate) fn run(rt: &LibcRuntime, words: &[String]) -> Result<(), Failure> {
+pub(crate) fn run(rt: &HostRuntime, words: &[String]) -> Result<(), Failure> {
     let (plain, name) = match words {
         [name] => (false, name),
         [option, name] if option.as_str() == "--plain" => (true, name),

@@ -1,22 +1,13 @@
 // The command `stack`: lays films of one size on one another.
-use crate::arguments;
-use crate::failure::Failure;
-use crate::failure::FailureFromAlloc;
-use crate::failure::FailureFromIo;
-use crate::failure::told;
-use crate::failure::told_of;
-use crate::files;
-use films::FileFaultDisplay;
-use films::picture_file;
-use lightbox::LayRefusalDisplay;
+use crate::failure::{Failure, told, told_of};
+use crate::{arguments, files};
+use films::{FileFaultDisplay, picture_file};
 use lightbox::lay;
-use pictures::Picture;
-use pictures::PictureFaultDisplay;
-use pictures::open_film;
+use pictures::{Picture, open_film};
 
 // Lays a film on the glass, which has the size of the first film.
 fn lay_film(
-    rt: &LibcRuntime,
+    rt: &HostRuntime,
     name: &str,
     first: &Picture<'_>,
     glass: &mut [u8],
@@ -25,15 +16,15 @@ fn lay_film(
     let film = told_of(rt, name, open_film(&file))?;
     told_of(rt, name, lay(glass, film.rows()))?;
     if film.width() != first.width() || film.height() != first.height() {
-        return Err(Failure::Told(
-            format!(rt.alloc(), "{name} has another size than the first film")?,
-        ));
+        return Err(Failure::Told(format!(in rt.alloc();
+            "{name} has another size than the first film"
+        )?));
     }
     Ok(())
 }
 
 // `stack [--force] OUT FILM..`
-pub(crate) fn run(rt: &LibcRuntime, words: &[String]) -> Result<(), Failure> {
+pub(crate) fn run(rt: &HostRuntime, words: &[String]) -> Result<(), Failure> {
     let heap = rt.alloc();
     let (force, words) = arguments::force(words);
     let [out, films @ ..] = words else {
@@ -56,7 +47,7 @@ pub(crate) fn run(rt: &LibcRuntime, words: &[String]) -> Result<(), Failure> {
     files::write(rt, out.as_str(), &bytes, force)?;
     if out.as_str() != "-" {
         let count = films.len();
-        println!(rt, "films {count}, each {width} by {height}\nwrote {out}")?;
+        println!(rt; "films {count}, each {width} by {height}\nwrote {out}")?;
     }
     Ok(())
 }

@@ -1,18 +1,17 @@
-use mathlib.Core.Path.{refl}
-use native.Mathlib.Omega.{arith}
-use Rattle·cards·proofs.RisingFacts.{front-again, front-found, front-whole}
-use Rattle·cards·proofs.reading.rising_front.Needs as need
+use Rattle.std.proofs.Common.{refl, arith}
+use Rattle.cards.proofs.RisingFacts.{front_again, front_found, front_whole}
+use Rattle.cards.proofs.reading.rising_front.Goals as goal
 
-pub loop-front-again : need.loop-front-again
-loop-front-again c = (
+pub loop-front-preserved : goal.loop-front-preserved
+loop-front-preserved c = (
   omega arith,
   omega arith,
-  front-again (c .args .sets .now) (c .loop-front .front) _ _ (omega arith) (omega arith) refl refl (c .if-sets-front .taken) (c .loop-front .inv .2),
+  front_again c.args.sets.now c.loop-front.front _ _ (omega arith) (omega arith) refl refl c.if-sets-front.true c.loop-front.invariant.2,
 )
 
-pub returns-else-sets-front : need.returns-else-sets-front
+pub returns-else-sets-front : goal.returns-else-sets-front
 returns-else-sets-front c =
-    front-found (c .args .sets .now) (c .loop-front .front) _ _ (omega arith) refl refl (c .if-sets-front .left) (c .loop-front .inv .2)
+    front_found c.args.sets.now c.loop-front.front _ _ (omega arith) refl refl c.if-sets-front.false c.loop-front.invariant.2
 
-pub returns-after-loop-front : need.returns-after-loop-front
-returns-after-loop-front c = front-whole (c .args .sets .now) (c .loop-front .front) (omega arith) (c .loop-front .inv .2)
+pub returns-after-loop-front : goal.returns-after-loop-front
+returns-after-loop-front c = front_whole c.args.sets.now c.loop-front.front (omega arith) c.loop-front.invariant.2

@@ -1,17 +1,16 @@
-use mathlib.Core.Path.{sym, _∙_}
-use lib.ListN.{length}
-use Rattle·std.proofs.shelf.Tests.{eqb-true, eqb-false}
-use Rattle·cumulative.specs.Access.{numbers}
-use Rattle·cards·proofs.ContentsFacts.{numbers-length}
-use Rattle·cards·proofs.WritingFacts.{none-given, some-given}
-use Rattle·cards·proofs.writing.check_none.Needs as need
+use Rattle.std.proofs.Common.{length, sym, ◌∙◌}
+use Rattle.std.proofs.lemmas.Bool.{eqb-true, eqb-false}
+use Rattle.cumulative.specs.Access.{numbers}
+use Rattle.cards.proofs.ContentsFacts.{numbers_length}
+use Rattle.cards.proofs.WritingFacts.{none_given, some_given}
+use Rattle.cards.proofs.writing.check_none.Goals as goal
 
-pub returns-then-is-empty : need.returns-then-is-empty
+pub returns-then-is-empty : goal.returns-then-is-empty
 returns-then-is-empty c =
-    let sets = c .args .sets .now in
-    none-given (numbers sets) (numbers-length sets ∙ eqb-true (length sets) 0 (sym (c .if-is-empty .ensures tt)))
+    let sets = c.args.sets.now in
+    none_given (numbers sets) (numbers_length sets ∙ eqb-true (length sets) 0 (sym c.if-is-empty.ensures))
 
-pub returns : need.returns
+pub returns : goal.returns
 returns c =
-    let sets = c .args .sets .now in
-    some-given (numbers sets) (λ e. eqb-false (length sets) 0 (sym (c .if-is-empty .ensures tt)) (sym (numbers-length sets) ∙ e))
+    let sets = c.args.sets.now in
+    some_given (numbers sets) (λ e. eqb-false (length sets) 0 (sym c.if-is-empty.ensures) (sym (numbers_length sets) ∙ e))

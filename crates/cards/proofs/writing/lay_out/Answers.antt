@@ -1,19 +1,17 @@
-use mathlib.Core.Path.{ap, _∙_}
-use mathlib.Core.List.{[], _∷_, _++_}
-use Rattle·std.specs.Of.Vec.{vec-items}
-use Rattle·cumulative.specs.Access.{numbers}
-use Rattle·cards·specs.Format.{field-bytes, n-field, kind-field, sets-field}
-use Rattle·cards·proofs.LayoutFacts.{three-fields}
-use Rattle·cards·proofs.writing.lay_out.Needs as need
+use Rattle.std.proofs.Common.{[], ◌∷◌, ◌++◌, vec_items, ap, ◌∙◌}
+use Rattle.cumulative.specs.Access.{numbers}
+use Rattle.cards.specs.Format.{field_bytes, n_field, kind_field, sets_field}
+use Rattle.cards.proofs.LayoutFacts.{three_fields}
+use Rattle.cards.proofs.writing.lay_out.Goals as goal
 
-pub returns : need.returns
+pub returns : goal.returns
 returns c =
-    let card = c .args .card .now in
-    let map = c .map-of .result in
-    three-fields (n-field (card .n)) (kind-field (card .kind)) (sets-field (card .kind) (numbers (vec-items (card .sets)))) map _ _ _ _
-    (c .map-of .ensures)
-    (c .in-Continue-push .ensures tt .items ∙ ap (λ l. l ++ map ∷ []) (c .new-bytes .ensures .items))
-    (c .in-Continue-push-n .ensures tt)
-    (c .in-Continue-push-kind .ensures tt)
-    (c .in-Continue-push-sets .ensures tt
-    ∙ ap (λ l. vec-items (c .push-kind .last .bytes) ++ field-bytes (sets-field (card .kind) (numbers l) ∷ [])) (c .deref .ensures .value))
+    let card = c.args.card.now in
+    let map = c.map-of.result in
+    three_fields (n_field card.n) (kind_field card.kind) (sets_field card.kind (numbers (vec_items card.sets))) map _ _ _ _
+    c.map-of.ensures
+    (c.in-ok-push.ensures.items ∙ ap (λ l. l ++ map ∷ []) c.new-bytes.ensures.items)
+    c.in-ok-push-n.ensures
+    c.in-ok-push-kind.ensures
+    (c.in-ok-push-sets.ensures
+    ∙ ap (λ l. vec_items c.push-kind.new.bytes ++ field_bytes (sets_field card.kind (numbers l) ∷ [])) c.deref.ensures.value)

@@ -1,17 +1,17 @@
-use native.Mathlib.Omega.{arith}
-use Rattle·std.proofs.shelf.Lists.{length-map}
-use Rattle·cumulative·specs.Records.{record-numbers}
-use Rattle·cumulative·specs.declared.records.KeyholderRecord.{KeyholderRecord}
-use Rattle·cumulative·proofs.RecordFacts.{noted-member, noted-absent}
-use Rattle·cumulative·proofs.records.note_absent.Needs as need
-use Rattle·cumulative·proofs.records.note_absent.Needs.{then-absent, else-absent}
+use Rattle.std.proofs.Common.{arith}
+use Rattle.std.proofs.lemmas.List.{length-map}
+use Rattle.cumulative.specs.Records.{record_numbers}
+use Rattle.cumulative.specs.declared.records.KeyholderRecord.{KeyholderRecord}
+use Rattle.cumulative.proofs.RecordFacts.{noted_member, noted_absent}
+use Rattle.cumulative.proofs.records.note_absent.Goals as goal
+use Rattle.cumulative.proofs.records.note_absent.Goals.{then-absent, else-absent}
 
-pub loop-k-again : need.loop-k-again
-loop-k-again c = elim (c .if-absent .came) [
+pub loop-k-preserved : goal.loop-k-preserved
+loop-k-preserved c = elim c.if-absent.branch [
   | then-absent w ↦
-      noted-absent (c .args .set .bits) (c .args .q) (record-numbers (c .args .records .now)) (c .loop-k .k) (c .loop-k .records) (c .if-absent .records)
-      (w .note .last .self) (c .loop-k .inv) (w .records-is) (omega (arith, length-map (c .args .records .now) (λ (entry : KeyholderRecord). entry .rows .bits))) (w .if-absent .ensures tt) (w .note .ensures)
+      noted_absent c.args.set.bits c.args.q (record_numbers c.args.records.now) c.loop-k.k c.loop-k.records c.if-absent.records
+      w.note.new.self c.loop-k.invariant w.records-is (omega (arith, length-map c.args.records.now (λ (entry : KeyholderRecord). entry.rows.bits))) w.if-absent.ensures w.note.ensures
   | else-absent w ↦
-      noted-member (c .args .set .bits) (c .args .q) (record-numbers (c .args .records .now)) (c .loop-k .k) (c .loop-k .records) (c .if-absent .records)
-      (c .loop-k .inv) (w .records-is) (w .if-absent .ensures tt)
+      noted_member c.args.set.bits c.args.q (record_numbers c.args.records.now) c.loop-k.k c.loop-k.records c.if-absent.records
+      c.loop-k.invariant w.records-is w.if-absent.ensures
 ]

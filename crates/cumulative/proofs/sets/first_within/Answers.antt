@@ -1,23 +1,21 @@
-use mathlib.Core.Path.{_∙_}
-use borrow.Author.Count.{below-more}
-use lib.ListN.{getD}
-use Rattle·cumulative·specs.Access.{numbers, subset}
-use Rattle·cumulative·proofs.SetsFacts.{place-found, place-none, subset-at}
-use Rattle·cumulative·proofs.sets.first_within.Needs as need
+use Rattle.std.proofs.Common.{get_or, ◌∙◌, below_more}
+use Rattle.cumulative.specs.Access.{numbers, subset}
+use Rattle.cumulative.proofs.SetsFacts.{place_found, place_none, subset_at}
+use Rattle.cumulative.proofs.sets.first_within.Goals as goal
 
-pub returns-then-contains : need.returns-then-contains
+pub returns-then-contains : goal.returns-then-contains
 returns-then-contains c =
-    let sets = c .args .minimal .now in
-    place-found sets (λ i. subset (getD (numbers sets) i 0) (c .args .set .bits)) (c .loop-i .i) (c .loop-i-test .taken)
-    (subset-at sets (c .loop-i .i) (c .loop-i-test .taken) (c .contains .result) (c .args .set .bits) (c .contains .ensures) ∙ c .if-contains .taken) (c .loop-i .inv)
+    let sets = c.args.minimal.now in
+    place_found sets (λ i. subset (get_or (numbers sets) i 0) c.args.set.bits) c.loop-i.i c.loop-i-test.true
+    (subset_at sets c.loop-i.i c.loop-i-test.true c.contains.result c.args.set.bits c.contains.ensures ∙ c.if-contains.true) c.loop-i.invariant
 
-pub loop-i-again : need.loop-i-again
-loop-i-again c =
-    let sets = c .args .minimal .now in
-    below-more _ _ (c .loop-i .inv)
-    (subset-at sets (c .loop-i .i) (c .loop-i-test .taken) (c .contains .result) (c .args .set .bits) (c .contains .ensures) ∙ c .if-contains .left)
+pub loop-i-preserved : goal.loop-i-preserved
+loop-i-preserved c =
+    let sets = c.args.minimal.now in
+    below_more _ _ c.loop-i.invariant
+    (subset_at sets c.loop-i.i c.loop-i-test.true c.contains.result c.args.set.bits c.contains.ensures ∙ c.if-contains.false)
 
-pub returns : need.returns
+pub returns : goal.returns
 returns c =
-    let sets = c .args .minimal .now in
-    place-none sets (λ i. subset (getD (numbers sets) i 0) (c .args .set .bits)) (c .loop-i .i) (c .loop-i-test .left) (c .loop-i .inv)
+    let sets = c.args.minimal.now in
+    place_none sets (λ i. subset (get_or (numbers sets) i 0) c.args.set.bits) c.loop-i.i c.loop-i-test.false c.loop-i.invariant

@@ -1,8 +1,7 @@
-use mathlib.Core.Path.{ap, _∙_}
-use Rattle·std.specs.Options.{isSome}
-use Rattle·cumulative·specs.Access.{numbers}
-use Rattle·cumulative·proofs.SetsFacts.{first-qualifies}
-use Rattle·cumulative·proofs.sets.is_qualified.Needs as need
+use Rattle.std.proofs.Common.{is_some, ap, ◌∙◌}
+use Rattle.cumulative.specs.Access.{numbers}
+use Rattle.cumulative.proofs.SetsFacts.{first_qualifies}
+use Rattle.cumulative.proofs.sets.is_qualified.Goals as goal
 
-pub returns : need.returns
-returns c = c .is-some .ensures ∙ ap isSome (c .first-within .ensures) ∙ first-qualifies (numbers (c .args .minimal .now)) (c .args .set .bits)
+pub returns : goal.returns
+returns c = c.is-some.ensures ∙ ap is_some c.first-within.ensures ∙ first_qualifies (numbers c.args.minimal.now) c.args.set.bits

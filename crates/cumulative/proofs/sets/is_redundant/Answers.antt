@@ -1,33 +1,29 @@
-use mathlib.Core.Path.{_∙_}
-use mathlib.Core.Bool.{not}
-use borrow.Author.Count.{below-more}
-use lib.Dec.{eqb}
-use lib.ListN.{getD}
-use Rattle·std.proofs.shelf.Tests.{eq-eqb, and-left, and-right, not-from-true}
-use Rattle·cumulative·specs.Access.{numbers, subset}
-use Rattle·cumulative·proofs.SetsFacts.{clash-at, redundant-found, redundant-none}
-use Rattle·cumulative·proofs.sets.is_redundant.Needs as need
-use Rattle·cumulative·proofs.sets.is_redundant.Needs.{else-another·by·then-another·else-contains, else-another·by·else-another}
+use Rattle.std.proofs.Common.{not, eqb, get_or, ◌∙◌, below_more}
+use Rattle.std.proofs.lemmas.Bool.{eq-eqb, and_left, and_right, not_from_true}
+use Rattle.cumulative.specs.Access.{numbers, subset}
+use Rattle.cumulative.proofs.SetsFacts.{clash_at, redundant_found, redundant_none}
+use Rattle.cumulative.proofs.sets.is_redundant.Goals as goal
+use Rattle.cumulative.proofs.sets.is_redundant.Goals.{else-another-via-then-another+else-contains, else-another-via-else-another}
 
-pub returns-then-contains : need.returns-then-contains
+pub returns-then-contains : goal.returns-then-contains
 returns-then-contains c =
-    let sets = c .args .sets .now in
-    redundant-found sets (c .args .place) (c .pre) (c .loop-j .j) (c .loop-j-test .taken) (c .if-another .taken)
-    (clash-at sets (c .args .place) (c .pre) (c .loop-j .j) (c .loop-j-test .taken) (c .contains .result) (c .contains .ensures) ∙ c .if-contains .taken)
+    let sets = c.args.sets.now in
+    redundant_found sets c.args.place c.requires c.loop-j.j c.loop-j-test.true c.if-another.true
+    (clash_at sets c.args.place c.requires c.loop-j.j c.loop-j-test.true c.contains.result c.contains.ensures ∙ c.if-contains.true)
 
-pub loop-j-again : need.loop-j-again
-loop-j-again c =
-    let sets = c .args .sets .now in
-    let j = c .loop-j .j in
-    let i = c .args .place in
-    below-more _ _ (c .loop-j .inv)
-    (elim (c .else-another .came) [
-      | else-another·by·then-another·else-contains w ↦
-          and-right (not (eqb j i)) (subset (getD (numbers sets) j 0) (getD (numbers sets) i 0))
-          (clash-at sets i (c .pre) j (c .loop-j-test .taken) (w .contains .result) (w .contains .ensures) ∙ w .if-contains .left)
-      | else-another·by·else-another w ↦
-          and-left (not (eqb j i)) (subset (getD (numbers sets) j 0) (getD (numbers sets) i 0)) (not-from-true (eqb j i) (eq-eqb j i (w .if-another .left)))
+pub loop-j-preserved : goal.loop-j-preserved
+loop-j-preserved c =
+    let sets = c.args.sets.now in
+    let j = c.loop-j.j in
+    let i = c.args.place in
+    below_more _ _ c.loop-j.invariant
+    (elim c.else-another.branch [
+      | else-another-via-then-another+else-contains w ↦
+          and_right (not (eqb j i)) (subset (get_or (numbers sets) j 0) (get_or (numbers sets) i 0))
+          (clash_at sets i c.requires j c.loop-j-test.true w.contains.result w.contains.ensures ∙ w.if-contains.false)
+      | else-another-via-else-another w ↦
+          and_left (not (eqb j i)) (subset (get_or (numbers sets) j 0) (get_or (numbers sets) i 0)) (not_from_true (eqb j i) (eq-eqb j i w.if-another.false))
     ])
 
-pub returns : need.returns
-returns c = redundant-none (c .args .sets .now) (c .args .place) (c .pre) (c .loop-j .j) (c .loop-j-test .left) (c .loop-j .inv)
+pub returns : goal.returns
+returns c = redundant_none c.args.sets.now c.args.place c.requires c.loop-j.j c.loop-j-test.false c.loop-j.invariant

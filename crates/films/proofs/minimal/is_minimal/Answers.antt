@@ -1,18 +1,17 @@
-use mathlib.Core.Path.{sym, ap, _∙_}
-use native.Mathlib.Omega.{arith}
-use Rattle·films·specs.Minimal.{is-qualified-part}
-use Rattle·films·proofs.MinimalFacts.{minimal-unqualified, minimal-not, minimal-is}
-use Rattle·films·proofs.minimal.is_minimal.Needs as need
+use Rattle.std.proofs.Common.{sym, ap, ◌∙◌, arith}
+use Rattle.films.specs.Minimal.{is_qualified_part}
+use Rattle.films.proofs.MinimalFacts.{minimal_unqualified, minimal_not, minimal_is}
+use Rattle.films.proofs.minimal.is_minimal.Goals as goal
 
-pub returns-then-not-qualified : need.returns-then-not-qualified
-returns-then-not-qualified g c = minimal-unqualified (g .S·Scheme .means (c .args .scheme .now)) (c .args .set .bits) (sym (c .if-not-qualified .ensures tt))
+pub returns-then-not-qualified : goal.returns-then-not-qualified
+returns-then-not-qualified g c = minimal_unqualified (g.S.Scheme.means c.args.scheme.now) c.args.set.bits (sym c.if-not-qualified.ensures)
 
-pub returns-then-is-qualified-part : need.returns-then-is-qualified-part
+pub returns-then-is-qualified-part : goal.returns-then-is-qualified-part
 returns-then-is-qualified-part g c =
-    let s = g .S·Scheme .means (c .args .scheme .now) in
-    minimal-not s (c .args .set .bits) (c .loop-number .number) (sym (c .if-not-qualified .ensures tt)) (omega arith)
-    (ap (is-qualified-part s (c .args .set .bits)) (sym (c .from-bits .ensures)) ∙ sym (c .if-is-qualified-part .ensures tt))
+    let s = g.S.Scheme.means c.args.scheme.now in
+    minimal_not s c.args.set.bits c.loop-number.number (sym c.if-not-qualified.ensures) (omega arith)
+    (ap (is_qualified_part s c.args.set.bits) (sym c.from-bits.ensures) ∙ sym c.if-is-qualified-part.ensures)
 
-pub returns : need.returns
+pub returns : goal.returns
 returns g c =
-    minimal-is (g .S·Scheme .means (c .args .scheme .now)) (c .args .set .bits) (c .loop-number .number) (sym (c .if-not-qualified .ensures tt)) (omega arith) (c .loop-number .inv)
+    minimal_is (g.S.Scheme.means c.args.scheme.now) c.args.set.bits c.loop-number.number (sym c.if-not-qualified.ensures) (omega arith) c.loop-number.invariant

@@ -1,6 +1,6 @@
-use mathlib.Core.Path.{sym}
-use Rattle·schemes.proofs.StripFacts.{square-bit-is}
-use Rattle·lightbox·proofs.counting.square_bit.Needs as need
+use Rattle.std.proofs.Common.{sym}
+use Rattle.schemes.proofs.StripFacts.{square_bit_is}
+use Rattle.lightbox.proofs.counting.square_bit.Goals as goal
 
-pub returns : need.returns
-returns c = sym (square-bit-is (c .args .columns) (c .args .pixel) (c .args .square))
+pub returns : goal.returns
+returns c = sym (square_bit_is c.args.columns c.args.pixel c.args.square)

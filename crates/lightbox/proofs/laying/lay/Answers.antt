@@ -1,27 +1,27 @@
-use native.Mathlib.Omega.{arith}
-use Rattle·std.proofs.shelf.Ways.{tells}
-use Rattle·lightbox·proofs.LayFacts.{overlaid-none, overlaid-more, overlaid-all, stacks-add-up}
-use Rattle·lightbox·proofs.StackFacts.{stacks-of-members}
-use Rattle·lightbox·proofs.laying.lay.Needs as need
+use Rattle.std.proofs.Common.{arith}
+use Rattle.std.proofs.lemmas.Bool.Decides.{nat_tests}
+use Rattle.lightbox.proofs.LayFacts.{overlaid_none, overlaid_more, overlaid_all, stacks_add_up}
+use Rattle.lightbox.proofs.StackFacts.{stacks_of_members}
+use Rattle.lightbox.proofs.laying.lay.Goals as goal
 
-pub loop-i-holds : need.loop-i-holds
-loop-i-holds c = overlaid-none (c .args .glass .now) (c .args .strip .now)
+pub loop-i-init : goal.loop-i-init
+loop-i-init c = overlaid_none c.args.glass.now c.args.strip.now
 
-pub loop-i-again : need.loop-i-again
-loop-i-again c = overlaid-more (c .args .glass .now) (c .args .strip .now) (c .loop-i .i) (c .loop-i .glass) (omega arith) (c .loop-i .inv)
+pub loop-i-preserved : goal.loop-i-preserved
+loop-i-preserved c = overlaid_more c.args.glass.now c.args.strip.now c.loop-i.i c.loop-i.glass (omega arith) c.loop-i.invariant
 
-pub returns : need.returns
+pub returns : goal.returns
 returns c = record {
-  refusal = grind (arith, tells);
-  leaves = overlaid-all (c .args .glass .now) (c .args .strip .now) (c .loop-i .i) (c .loop-i .glass) (omega arith) (omega arith) (omega arith) (c .loop-i .inv);
-  adds = stacks-add-up;
-  stacks = stacks-of-members;
+  refusal = grind (arith, nat_tests);
+  leaves = overlaid_all c.args.glass.now c.args.strip.now c.loop-i.i c.loop-i.glass (omega arith) (omega arith) (omega arith) c.loop-i.invariant;
+  adds = stacks_add_up;
+  stacks = stacks_of_members;
 }
 
-pub returns-then-glass-strip : need.returns-then-glass-strip
+pub returns-then-glass-strip : goal.returns-then-glass-strip
 returns-then-glass-strip c = record {
-  refusal = grind (arith, tells);
-  leaves = grind (arith, tells);
-  adds = stacks-add-up;
-  stacks = stacks-of-members;
+  refusal = grind (arith, nat_tests);
+  leaves = grind (arith, nat_tests);
+  adds = stacks_add_up;
+  stacks = stacks_of_members;
 }

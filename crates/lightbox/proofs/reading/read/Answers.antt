@@ -1,9 +1,9 @@
-use borrow.Author.Needs.{needs}
-use Rattle·lightbox·proofs.ReadingFacts.{one-reading, reads-what-shows}
-use Rattle·lightbox·proofs.reading.read.Needs as need
+use Rattle.std.proofs.Common.{rules}
+use Rattle.lightbox.proofs.ReadingFacts.{one_reading, reads_what_shows}
+use Rattle.lightbox.proofs.reading.read.Goals as goal
 
-pub returns-in-Break-light : need.returns-in-Break-light
-returns-in-Break-light g c = record { reads = search needs; determined = one-reading; restores = reads-what-shows }
+pub returns-in-err-light : goal.returns-in-err-light
+returns-in-err-light g c = record { reads = search rules; determined = one_reading; restores = reads_what_shows }
 
-pub returns : need.returns
-returns g c = record { reads = search needs; determined = one-reading; restores = reads-what-shows }
+pub returns : goal.returns
+returns g c = record { reads = search rules; determined = one_reading; restores = reads_what_shows }

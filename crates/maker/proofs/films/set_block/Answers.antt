@@ -1,21 +1,18 @@
-use mathlib.Core.Path.{_≡_}
-use Prim.Native.Nat.{_<_}
-use native.Mathlib.Omega.{arith}
-use lib.ListN.{length}
-use Rattle·std.proofs.shelf.Elements.{all-getD}
-use Rattle·maker·proofs.Squares.{block-none, block-more}
-use Rattle·maker·proofs.films.set_block.Needs as need
+use Rattle.std.proofs.Common.{◌≡◌, ◌<◌, length, arith}
+use Rattle.std.proofs.ByRecursion.{All-get_or}
+use Rattle.maker.proofs.Squares.{block_none, block_more}
+use Rattle.maker.proofs.films.set_block.Goals as goal
 
-pub loop-p-holds : need.loop-p-holds
-loop-p-holds c = block-none (c .args .table .now) (c .args .order .now) (c .args .n) (c .args .size) (c .args .start) (c .args .out .now)
+pub loop-p-init : goal.loop-p-init
+loop-p-init c = block_none c.args.table.now c.args.order.now c.args.n c.args.size c.args.start c.args.out.now
 
-pub index-table-order : need.index-table-order
-index-table-order c = all-getD (λ j. j < length (c .args .table .now)) (c .args .order .now) (c .loop-p .p) 0 (omega arith) (c .pre .columns)
+pub bounds-table-order : goal.bounds-table-order
+bounds-table-order c = All-get_or (λ j. j < length c.args.table.now) c.args.order.now c.loop-p.p 0 (omega arith) c.requires.columns
 
-pub loop-p-again : need.loop-p-again
-loop-p-again c = block-more (c .args .table .now) (c .args .order .now) (c .args .n) (c .args .size) (c .args .start) (c .args .out .now) (c .loop-p .p) (c .loop-p .out) (c .set-square .last .out) (c .loop-p .inv) (c .set-square .ensures)
+pub loop-p-preserved : goal.loop-p-preserved
+loop-p-preserved c = block_more c.args.table.now c.args.order.now c.args.n c.args.size c.args.start c.args.out.now c.loop-p.p c.loop-p.out c.set-square.new.out c.loop-p.invariant c.set-square.ensures
 
-pub returns : need.returns
+pub returns : goal.returns
 returns c =
-    let all : c .loop-p .p ≡ length (c .args .order .now) = omega arith in
-    rw (← all) (c .loop-p .inv)
+    let all : c.loop-p.p ≡ length c.args.order.now = omega arith in
+    rw (← all) c.loop-p.invariant

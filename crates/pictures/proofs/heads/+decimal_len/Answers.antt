@@ -1,15 +1,13 @@
-use mathlib.Core.Path.{sym, ap, _∙_}
-use Prim.Native.Nat.{_+_}
-use native.Mathlib.Omega.{arith}
-use Rattle·std.proofs.shelf.Decimals.{length-decimal-le}
-use Rattle·pictures·proofs.Written.{length-digit, length-step}
-use Rattle·pictures·proofs.heads.+decimal_len.Needs as need
+use Rattle.std.proofs.Common.{◌+◌, sym, ap, ◌∙◌, arith}
+use Rattle.std.proofs.lemmas.Fmt.{length-decimal-le}
+use Rattle.pictures.proofs.Written.{length_digit, length_step}
+use Rattle.pictures.proofs.heads.+decimal_len.Goals as goal
 
-pub returns-then-n-lt-TWO-DIGITS : need.returns-then-n-lt-TWO-DIGITS
-returns-then-n-lt-TWO-DIGITS t c = record { is = sym (length-digit (c .args .n) (c .if-n-lt-TWO-DIGITS .taken)); bound = omega arith }
+pub returns-then-n-lt-TWO-DIGITS : goal.returns-then-n-lt-TWO-DIGITS
+returns-then-n-lt-TWO-DIGITS t c = record { is = sym (length_digit c.args.n c.if-n-lt-TWO-DIGITS.true); bound = omega arith }
 
-pub returns-else-n-lt-TWO-DIGITS : need.returns-else-n-lt-TWO-DIGITS
+pub returns-else-n-lt-TWO-DIGITS : goal.returns-else-n-lt-TWO-DIGITS
 returns-else-n-lt-TWO-DIGITS t c =
-    let step = length-step (c .args .n) (c .if-n-lt-TWO-DIGITS .left) (omega arith) in
-    let most = length-decimal-le 10 (c .args .n) (omega arith) (omega arith) (omega arith) in
+    let step = length_step c.args.n c.if-n-lt-TWO-DIGITS.false (omega arith) in
+    let most = length-decimal-le 10 c.args.n (omega arith) (omega arith) (omega arith) in
     record { is = omega arith; bound = omega arith }

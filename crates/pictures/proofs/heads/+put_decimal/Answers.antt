@@ -1,45 +1,40 @@
-use mathlib.Core.Path.{_≡_, sym, ap, _∙_}
-use mathlib.Core.List.{_++_}
-use Prim.Native.Nat.{_+_, _%_, _/_, _<_}
-use native.Mathlib.Omega.{arith}
-use lib.ListN.{length, take, set}
-use Rattle·std.specs.Written.{decimal}
-use Rattle·pictures·specs.Head.{over-front}
-use Rattle·pictures·proofs.Written.{length-digit, length-step, put-last, put-only}
-use Rattle·pictures·proofs.heads.+put_decimal.Needs as need
-use Rattle·pictures·proofs.heads.+put_decimal.Needs.{then-n-ge-TWO-DIGITS, else-n-ge-TWO-DIGITS}
+use Rattle.std.proofs.Common.{◌≡◌, ◌+◌, ◌/◌, ◌%◌, ◌<◌, ◌++◌, length, take, set, decimal, sym, ap, ◌∙◌, arith}
+use Rattle.pictures.specs.Head.{over_front}
+use Rattle.pictures.proofs.Written.{length_digit, length_step, put_last, put_only}
+use Rattle.pictures.proofs.heads.+put_decimal.Goals as goal
+use Rattle.pictures.proofs.heads.+put_decimal.Goals.{then-n-ge-TWO-DIGITS, else-n-ge-TWO-DIGITS}
 
-pub put-decimal-place-requires : need.put-decimal-place-requires
-put-decimal-place-requires t c κs = (omega arith, omega (arith, length-step (c .args .n) (c .if-n-ge-TWO-DIGITS .taken) (omega arith)))
+pub put-decimal-place-requires : goal.put-decimal-place-requires
+put-decimal-place-requires t c = (omega arith, omega (arith, length_step c.args.n c.if-n-ge-TWO-DIGITS.true (omega arith)))
 
-pub index-buf-place : need.index-buf-place
-index-buf-place t c =
-    elim (c .if-n-ge-TWO-DIGITS .came) [
-      | then-n-ge-TWO-DIGITS w ↦ omega (arith, w .place-is, w .put-decimal-place .ensures .after, length-step (c .args .n) (w .if-n-ge-TWO-DIGITS .taken) (omega arith))
-      | else-n-ge-TWO-DIGITS w ↦ omega (arith, w .place-is, length-digit (c .args .n) (w .if-n-ge-TWO-DIGITS .left))
+pub bounds-buf-place : goal.bounds-buf-place
+bounds-buf-place t c =
+    elim c.if-n-ge-TWO-DIGITS.branch [
+      | then-n-ge-TWO-DIGITS w ↦ omega (arith, w.place-is, w.put-decimal-place.ensures.after, length_step c.args.n w.if-n-ge-TWO-DIGITS.true (omega arith))
+      | else-n-ge-TWO-DIGITS w ↦ omega (arith, w.place-is, length_digit c.args.n w.if-n-ge-TWO-DIGITS.false)
     ]
 
-pub add-result : need.add-result
-add-result t c =
-    elim (c .if-n-ge-TWO-DIGITS .came) [
-      | then-n-ge-TWO-DIGITS w ↦ omega (arith, w .place-is, w .put-decimal-place .ensures .after, length-step (c .args .n) (w .if-n-ge-TWO-DIGITS .taken) (omega arith))
-      | else-n-ge-TWO-DIGITS w ↦ omega (arith, w .place-is, length-digit (c .args .n) (w .if-n-ge-TWO-DIGITS .left))
+pub overflow-add-result : goal.overflow-add-result
+overflow-add-result t c =
+    elim c.if-n-ge-TWO-DIGITS.branch [
+      | then-n-ge-TWO-DIGITS w ↦ omega (arith, w.place-is, w.put-decimal-place.ensures.after, length_step c.args.n w.if-n-ge-TWO-DIGITS.true (omega arith))
+      | else-n-ge-TWO-DIGITS w ↦ omega (arith, w.place-is, length_digit c.args.n w.if-n-ge-TWO-DIGITS.false)
     ]
 
-pub returns : need.returns
+pub returns : goal.returns
 returns t c =
-    elim (c .if-n-ge-TWO-DIGITS .came) [
+    elim c.if-n-ge-TWO-DIGITS.branch [
       | then-n-ge-TWO-DIGITS w ↦
-          let more = length-step (c .args .n) (w .if-n-ge-TWO-DIGITS .taken) (omega arith) in
-          let after = w .put-decimal-place .ensures .after in
+          let more = length_step c.args.n w.if-n-ge-TWO-DIGITS.true (omega arith) in
+          let after = w.put-decimal-place.ensures.after in
           record {
-            after = omega (arith, w .place-is);
-            written = put-last (c .args .buf .now) (c .if-n-ge-TWO-DIGITS .buf) (c .args .at) (c .if-n-ge-TWO-DIGITS .place) (c .args .n) (omega arith) (omega (arith, w .place-is)) (omega (arith, w .place-is)) (w .if-n-ge-TWO-DIGITS .taken) (omega arith) (w .buf-is ∙ w .put-decimal-place .ensures .written);
+            after = omega (arith, w.place-is);
+            written = put_last c.args.buf.now c.if-n-ge-TWO-DIGITS.buf c.args.at c.if-n-ge-TWO-DIGITS.place c.args.n (omega arith) (omega (arith, w.place-is)) (omega (arith, w.place-is)) w.if-n-ge-TWO-DIGITS.true (omega arith) (w.buf-is ∙ w.put-decimal-place.ensures.written);
           }
       | else-n-ge-TWO-DIGITS w ↦
-          let one = length-digit (c .args .n) (w .if-n-ge-TWO-DIGITS .left) in
+          let one = length_digit c.args.n w.if-n-ge-TWO-DIGITS.false in
           record {
-            after = omega (arith, w .place-is);
-            written = (λ i. set (w .buf-is i) (w .place-is i) (48 + c .args .n % 10)) ∙ put-only (c .args .buf .now) (c .args .at) (c .args .n) (omega arith) (w .if-n-ge-TWO-DIGITS .left);
+            after = omega (arith, w.place-is);
+            written = (λ i. set (w.buf-is i) (w.place-is i) (48 + c.args.n % 10)) ∙ put_only c.args.buf.now c.args.at c.args.n (omega arith) w.if-n-ge-TWO-DIGITS.false;
           }
     ]

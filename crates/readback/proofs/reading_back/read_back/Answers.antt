@@ -1,50 +1,49 @@
-use mathlib.Core.Path.{refl, ap, _∙_}
-use Rattle·std.specs.declared.result.Result.the-variants.{Ok, Err}
-use Rattle·std.proofs.shelf.Results.{err-from-errBy}
-use Rattle·readback·proofs.Calls.{when-early, when-short, when-read}
-use Rattle·readback·proofs.reading_back.read_back.Needs as need
+use Rattle.std.proofs.Common.{Ok, Err, refl, ap, ◌∙◌}
+use Rattle.std.proofs.lemmas.Result.{err_from_is_err_and}
+use Rattle.readback.proofs.Calls.{when_early, when_short, when_read}
+use Rattle.readback.proofs.reading_back.read_back.Goals as goal
 
-pub returns-in-Break-admit : need.returns-in-Break-admit
-returns-in-Break-admit g c =
-    let scheme = c .args .scheme .now in
-    let p = err-from-errBy (c .from-residual .result) (c .from-residual .ensures .1) in
+pub returns-in-err-admit : goal.returns-in-err-admit
+returns-in-err-admit g c =
+    let scheme = c.args.scheme.now in
+    let p = err_from_is_err_and c.from-residual.result c.from-residual.ensures.1 in
     let done =
-    when-early (g .S·Scheme .means scheme) (g .S·Scheme·met .«in_range» scheme) (g .S·Scheme·met .lawful scheme)
-    (c .args .set .bits) (c .args .w) (c .args .films .now) (c .args .glass .now) (c .args .out .now)
-    (c .in-Break-admit .field-0 .0) (c .from-residual .result) (c .in-Break-admit .ensures tt .refusal) (p .1 ∙ ap Err (p .2)) in
-    record { reads = done .reads; restores = done .restores; whole-runs = done .whole-runs }
+    when_early (g.S.Scheme.means scheme) (g.met.S.Scheme.in_range scheme) (g.met.S.Scheme.lawful scheme)
+    c.args.set.bits c.args.w c.args.films.now c.args.glass.now c.args.out.now
+    c.in-err-admit.field-0.0 c.from-residual.result c.in-err-admit.ensures.refusal (p.1 ∙ ap Err p.2) in
+    record { reads = done.reads; restores = done.restores; whole_runs = done.whole_runs }
 
-pub returns-in-Break-lay-members : need.returns-in-Break-lay-members
-returns-in-Break-lay-members g c =
-    let scheme = c .args .scheme .now in
-    let p = err-from-errBy (c .from-residual-in-Break-lay-members .result) (c .from-residual-in-Break-lay-members .ensures .1) in
+pub returns-in-err-lay-members : goal.returns-in-err-lay-members
+returns-in-err-lay-members g c =
+    let scheme = c.args.scheme.now in
+    let p = err_from_is_err_and c.from-residual-in-err-lay-members.result c.from-residual-in-err-lay-members.ensures.1 in
     let done =
-    when-short (g .S·Scheme .means scheme) (g .S·Scheme·met .«in_range» scheme) (g .S·Scheme·met .lawful scheme)
-    (c .args .set .bits) (c .args .w) (c .args .films .now) (c .args .glass .now) (c .args .out .now)
-    (c .in-Continue-admit .ensures tt .refusal) (c .keyholders .result) (c .keyholders .ensures)
-    (c .in-Break-lay-members .field-0 .0) (c .from-residual-in-Break-lay-members .result) (c .lay-members .last .glass)
-    (c .in-Break-lay-members .ensures tt) (p .1 ∙ ap Err (p .2)) in
-    record { reads = done .reads; restores = done .restores; whole-runs = done .whole-runs }
+    when_short (g.S.Scheme.means scheme) (g.met.S.Scheme.in_range scheme) (g.met.S.Scheme.lawful scheme)
+    c.args.set.bits c.args.w c.args.films.now c.args.glass.now c.args.out.now
+    c.in-ok-admit.ensures.refusal c.keyholders.result c.keyholders.ensures
+    c.in-err-lay-members.field-0.0 c.from-residual-in-err-lay-members.result c.lay-members.new.glass
+    c.in-err-lay-members.ensures (p.1 ∙ ap Err p.2) in
+    record { reads = done.reads; restores = done.restores; whole_runs = done.whole_runs }
 
-pub returns-in-Break-read : need.returns-in-Break-read
-returns-in-Break-read g c =
-    let scheme = c .args .scheme .now in
-    let p = err-from-errBy (c .from-residual-in-Break-read .result) (c .from-residual-in-Break-read .ensures .1) in
+pub returns-in-err-read : goal.returns-in-err-read
+returns-in-err-read g c =
+    let scheme = c.args.scheme.now in
+    let p = err_from_is_err_and c.from-residual-in-err-read.result c.from-residual-in-err-read.ensures.1 in
     let done =
-    when-read (g .S·Scheme .means scheme) (g .S·Scheme·met .«in_range» scheme) (g .S·Scheme·met .lawful scheme)
-    (c .args .set .bits) (c .args .w) (c .args .films .now) (c .args .glass .now) (c .args .out .now)
-    (c .in-Continue-admit .ensures tt .refusal) (c .keyholders .result) (c .keyholders .ensures)
-    (c .lay-members .last .glass) (c .read .last .out) (Err (c .in-Break-read .field-0 .0)) (c .from-residual-in-Break-read .result)
-    (c .in-Continue-lay-members .ensures tt) (c .in-Break-read .ensures tt .reads) (p .1 ∙ ap Err (p .2)) in
-    record { reads = done .reads; restores = done .restores; whole-runs = done .whole-runs }
+    when_read (g.S.Scheme.means scheme) (g.met.S.Scheme.in_range scheme) (g.met.S.Scheme.lawful scheme)
+    c.args.set.bits c.args.w c.args.films.now c.args.glass.now c.args.out.now
+    c.in-ok-admit.ensures.refusal c.keyholders.result c.keyholders.ensures
+    c.lay-members.new.glass c.read.new.out (Err c.in-err-read.field-0.0) c.from-residual-in-err-read.result
+    c.in-ok-lay-members.ensures c.in-err-read.ensures.reads (p.1 ∙ ap Err p.2) in
+    record { reads = done.reads; restores = done.restores; whole_runs = done.whole_runs }
 
-pub returns : need.returns
+pub returns : goal.returns
 returns g c =
-    let scheme = c .args .scheme .now in
+    let scheme = c.args.scheme.now in
     let done =
-    when-read (g .S·Scheme .means scheme) (g .S·Scheme·met .«in_range» scheme) (g .S·Scheme·met .lawful scheme)
-    (c .args .set .bits) (c .args .w) (c .args .films .now) (c .args .glass .now) (c .args .out .now)
-    (c .in-Continue-admit .ensures tt .refusal) (c .keyholders .result) (c .keyholders .ensures)
-    (c .lay-members .last .glass) (c .read .last .out) (Ok tt) (Ok tt)
-    (c .in-Continue-lay-members .ensures tt) (c .in-Continue-read .ensures tt .reads) refl in
-    record { reads = done .reads; restores = done .restores; whole-runs = done .whole-runs }
+    when_read (g.S.Scheme.means scheme) (g.met.S.Scheme.in_range scheme) (g.met.S.Scheme.lawful scheme)
+    c.args.set.bits c.args.w c.args.films.now c.args.glass.now c.args.out.now
+    c.in-ok-admit.ensures.refusal c.keyholders.result c.keyholders.ensures
+    c.lay-members.new.glass c.read.new.out (Ok tt) (Ok tt)
+    c.in-ok-lay-members.ensures c.in-ok-read.ensures.reads refl in
+    record { reads = done.reads; restores = done.restores; whole_runs = done.whole_runs }

@@ -1,5 +1,5 @@
-use Rattle·schemes·proofs.AllOfFacts.{odd-ones}
-use Rattle·schemes·proofs.all_of.is_odd.Needs as need
+use Rattle.schemes.specs.AllOfFacts.{odd_ones}
+use Rattle.schemes.proofs.all_of.is_odd.Goals as goal
 
-pub returns : need.returns
-returns c = odd-ones (c .args .width) (c .args .column) (c .pre)
+pub returns : goal.returns
+returns c = odd_ones c.args.width c.args.column c.requires

@@ -1,7 +1,7 @@
-use mathlib.Core.Path.{refl}
-use Rattle·schemes·specs.Bits.{bit}
-use Rattle·schemes·proofs.bits.has_bit.Needs as need
+use Rattle.std.proofs.Common.{refl}
+use Rattle.schemes.specs.Bits.{bit}
+use Rattle.schemes.proofs.bits.has_bit.Goals as goal
 
-pub returns : need.returns
+pub returns : goal.returns
 unfolding bit
 returns c = refl

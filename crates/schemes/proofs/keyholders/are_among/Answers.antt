@@ -1,10 +1,7 @@
-use mathlib.Core.Path.{ap, _∙_}
-use Prim.Native.Nat.{ℕ}
-use native.Mathlib.Omega.{arith}
-use lib.Dec.{leb}
-use Rattle·schemes·proofs.KeyholderFacts.{among-decided}
-use Rattle·schemes·proofs.keyholders.are_among.Needs as need
+use Rattle.std.proofs.Common.{ℕ, leb, ap, ◌∙◌, arith}
+use Rattle.schemes.proofs.KeyholderFacts.{among_decided}
+use Rattle.schemes.proofs.keyholders.are_among.Goals as goal
 
-pub returns : need.returns
+pub returns : goal.returns
 returns c =
-    ap (λ (x : ℕ). leb (c .args .bits) x) (c .everyone .ensures) ∙ among-decided (c .args .n) (c .args .bits) (omega arith)
+    ap (λ (x : ℕ). leb c.args.bits x) c.everyone.ensures ∙ among_decided c.args.n c.args.bits (omega arith)

@@ -1,6 +1,6 @@
-use native.Mathlib.Omega.{arith}
-use Rattle·schemes·proofs.KeyholderFacts.{empty-decided}
-use Rattle·schemes·proofs.keyholders.are_none.Needs as need
+use Rattle.std.proofs.Common.{arith}
+use Rattle.schemes.proofs.KeyholderFacts.{empty_decided}
+use Rattle.schemes.proofs.keyholders.are_none.Goals as goal
 
-pub returns : need.returns
-returns c = empty-decided (c .args .bits) (omega arith)
+pub returns : goal.returns
+returns c = empty_decided c.args.bits (omega arith)

@@ -1,6 +1,6 @@
-use native.Mathlib.Omega.{arith}
-use Rattle·schemes·proofs.KeyholderFacts.{within-decided}
-use Rattle·schemes·proofs.keyholders.are_within.Needs as need
+use Rattle.std.proofs.Common.{arith}
+use Rattle.schemes.proofs.KeyholderFacts.{within_decided}
+use Rattle.schemes.proofs.keyholders.are_within.Goals as goal
 
-pub returns : need.returns
-returns c = within-decided (c .args .a) (c .args .b) (omega arith) (omega arith)
+pub returns : goal.returns
+returns c = within_decided c.args.a c.args.b (omega arith) (omega arith)

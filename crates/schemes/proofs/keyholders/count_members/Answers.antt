@@ -1,6 +1,6 @@
-use native.Mathlib.Omega.{arith}
-use Rattle·schemes·proofs.KeyholderFacts.{ones-size}
-use Rattle·schemes·proofs.keyholders.count_members.Needs as need
+use Rattle.std.proofs.Common.{arith}
+use Rattle.schemes.proofs.KeyholderFacts.{ones_size}
+use Rattle.schemes.proofs.keyholders.count_members.Goals as goal
 
-pub returns : need.returns
-returns c = ones-size (c .args .bits) (omega arith)
+pub returns : goal.returns
+returns c = ones_size c.args.bits (omega arith)

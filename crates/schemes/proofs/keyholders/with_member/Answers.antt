@@ -1,8 +1,7 @@
-use mathlib.Core.Path.{ap, _∙_}
-use Prim.Native.Nat.{ℕ}
-use Rattle·schemes·specs.Keyholders.{member}
-use Rattle·schemes·proofs.KeyholderFacts.{member-with}
-use Rattle·schemes·proofs.keyholders.with_member.Needs as need
+use Rattle.std.proofs.Common.{ℕ, ap, ◌∙◌}
+use Rattle.schemes.specs.Keyholders.{member}
+use Rattle.schemes.proofs.KeyholderFacts.{member_with}
+use Rattle.schemes.proofs.keyholders.with_member.Goals as goal
 
-pub returns : need.returns
-returns c = λ i. ap (λ (x : ℕ). member x i) (c .with-bit .ensures) ∙ member-with (c .args .bits) (c .args .keyholder) i (c .pre .0)
+pub returns : goal.returns
+returns c = λ i. ap (λ (x : ℕ). member x i) c.with_bit.ensures ∙ member_with c.args.bits c.args.keyholder i c.requires.0

@@ -1,23 +1,23 @@
-use native.Mathlib.Omega.{arith}
-use Rattle·schemes·proofs.TestFacts.{any-end}
-use Rattle·schemes·proofs.KeyholderFacts.{stacked, stack-found, stack-white, stack-other}
-use Rattle·schemes·proofs.levels.is_stack_black.Needs as need
-use Rattle·schemes·proofs.levels.is_stack_black.Needs.{else-has·by·then-has·else-cell, else-has·by·else-has}
+use Rattle.std.proofs.Common.{arith}
+use Rattle.schemes.specs.TestFacts.{any_end}
+use Rattle.schemes.proofs.KeyholderFacts.{stacked, stack_found, stack_white, stack_other}
+use Rattle.schemes.proofs.levels.is_stack_black.Goals as goal
+use Rattle.schemes.proofs.levels.is_stack_black.Goals.{else-has-via-then-has+else-cell, else-has-via-else-has}
 
-pub returns-then-cell : need.returns-then-cell
+pub returns-then-cell : goal.returns-then-cell
 returns-then-cell g c =
-    let s = g .S·Scheme .means (c .args .scheme .now) in
-    stack-found (c .args .set .bits) (λ i. s .cell (c .args .colour) i (c .args .column)) (s .n) (c .loop-k .k) (omega arith) (c .if-has .ensures tt) (c .if-cell .ensures tt)
+    let s = g.S.Scheme.means c.args.scheme.now in
+    stack_found c.args.set.bits (λ i. s.cell c.args.colour i c.args.column) s.n c.loop-k.k (omega arith) c.if-has.ensures c.if-cell.ensures
 
-pub loop-k-again : need.loop-k-again
-loop-k-again g c =
-    let s = g .S·Scheme .means (c .args .scheme .now) in
-    elim (c .else-has .came) [
-      | else-has·by·then-has·else-cell w ↦ stack-white (c .args .set .bits) (λ i. s .cell (c .args .colour) i (c .args .column)) (c .loop-k .k) (c .loop-k .inv) (w .if-cell .ensures tt)
-      | else-has·by·else-has w ↦ stack-other (c .args .set .bits) (λ i. s .cell (c .args .colour) i (c .args .column)) (c .loop-k .k) (c .loop-k .inv) (w .if-has .ensures tt)
+pub loop-k-preserved : goal.loop-k-preserved
+loop-k-preserved g c =
+    let s = g.S.Scheme.means c.args.scheme.now in
+    elim c.else-has.branch [
+      | else-has-via-then-has+else-cell w ↦ stack_white c.args.set.bits (λ i. s.cell c.args.colour i c.args.column) c.loop-k.k c.loop-k.invariant w.if-cell.ensures
+      | else-has-via-else-has w ↦ stack_other c.args.set.bits (λ i. s.cell c.args.colour i c.args.column) c.loop-k.k c.loop-k.invariant w.if-has.ensures
     ]
 
-pub returns : need.returns
+pub returns : goal.returns
 returns g c =
-    let s = g .S·Scheme .means (c .args .scheme .now) in
-    any-end (s .n) (c .loop-k .k) (stacked (c .args .set .bits) (λ i. s .cell (c .args .colour) i (c .args .column))) (omega arith) (omega arith) (c .loop-k .inv)
+    let s = g.S.Scheme.means c.args.scheme.now in
+    any_end s.n c.loop-k.k (stacked c.args.set.bits (λ i. s.cell c.args.colour i c.args.column)) (omega arith) (omega arith) c.loop-k.invariant

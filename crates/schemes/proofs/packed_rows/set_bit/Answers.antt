@@ -1,11 +1,11 @@
-use native.Mathlib.Omega.{arith}
-use Rattle·schemes·proofs.PackedFacts.{bit-set, bytes-set}
-use Rattle·schemes·proofs.packed_rows.set_bit.Needs as need
+use Rattle.std.proofs.Common.{arith}
+use Rattle.schemes.proofs.PackedFacts.{bit_set, bytes_set}
+use Rattle.schemes.proofs.packed_rows.set_bit.Goals as goal
 
-pub returns-then-k-row : need.returns-then-k-row
+pub returns-then-k-row : goal.returns-then-k-row
 returns-then-k-row c =
-    rw (c .mark-bit .ensures)
+    rw c.mark-bit.ensures
     (record {
-      bits = bit-set (c .args .row .now) (c .args .k) (omega arith);
-      bytes = bytes-set (c .args .row .now) (c .args .k) (omega arith);
+      bits = bit_set c.args.row.now c.args.k (omega arith);
+      bytes = bytes_set c.args.row.now c.args.k (omega arith);
     })

@@ -1,6 +1,6 @@
-use mathlib.Core.Path.{sym}
-use Rattle·schemes·proofs.StripFacts.{strip-squares-are}
-use Rattle·schemes·proofs.strips.strip_squares.Needs as need
+use Rattle.std.proofs.Common.{sym}
+use Rattle.schemes.proofs.StripFacts.{strip_squares_are}
+use Rattle.schemes.proofs.strips.strip_squares.Goals as goal
 
-pub returns : need.returns
-returns c = sym (strip-squares-are (c .args .columns) (c .args .pixels))
+pub returns : goal.returns
+returns c = sym (strip_squares_are c.args.columns c.args.pixels)

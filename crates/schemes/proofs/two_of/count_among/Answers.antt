@@ -1,6 +1,6 @@
-use mathlib.Core.Path.{_∙_}
-use Rattle·schemes·proofs.KeyholderFacts.{size-among}
-use Rattle·schemes·proofs.two_of.count_among.Needs as need
+use Rattle.std.proofs.Common.{◌∙◌}
+use Rattle.schemes.proofs.KeyholderFacts.{size_among}
+use Rattle.schemes.proofs.two_of.count_among.Goals as goal
 
-pub returns : need.returns
-returns c = c .len .ensures ∙ size-among (c .args .n) (c .args .set .bits) (c .pre .0) (c .pre .1)
+pub returns : goal.returns
+returns c = c.len.ensures ∙ size_among c.args.n c.args.set.bits c.requires.0 c.requires.1

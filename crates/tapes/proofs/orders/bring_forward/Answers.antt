@@ -1,16 +1,16 @@
-use native.Mathlib.Omega.{arith}
-use Rattle·tapes·proofs.Forward.{forward-none, forward-more, forward-all}
-use Rattle·tapes·proofs.orders.bring_forward.Needs as need
+use Rattle.std.proofs.Common.{arith}
+use Rattle.tapes.proofs.Forward.{forward_none, forward_more, forward_all}
+use Rattle.tapes.proofs.orders.bring_forward.Goals as goal
 
-pub loop-k-holds : need.loop-k-holds
-loop-k-holds c = forward-none (c .args .remaining .now) (c .args .place)
+pub loop-k-init : goal.loop-k-init
+loop-k-init c = forward_none c.args.remaining.now c.args.place
 
-pub loop-k-again : need.loop-k-again
-loop-k-again c =
-    forward-more (c .args .remaining .now) (c .args .place) (c .loop-k .k) (c .loop-k .carried) (c .select .result) (c .loop-k .remaining) (c .loop-k .inv)
-    (omega arith) (c .select .ensures)
+pub loop-k-preserved : goal.loop-k-preserved
+loop-k-preserved c =
+    forward_more c.args.remaining.now c.args.place c.loop-k.k c.loop-k.carried c.select.result c.loop-k.remaining c.loop-k.invariant
+    (omega arith) c.select.ensures
 
-pub returns : need.returns
+pub returns : goal.returns
 returns c =
-    forward-all (c .args .remaining .now) (c .args .place) (c .loop-k .k) (c .loop-k .carried) (c .loop-k .remaining) (c .loop-k .inv)
-    (omega arith) (omega arith) (c .pre)
+    forward_all c.args.remaining.now c.args.place c.loop-k.k c.loop-k.carried c.loop-k.remaining c.loop-k.invariant
+    (omega arith) (omega arith) c.requires

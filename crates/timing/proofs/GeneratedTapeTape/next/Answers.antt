@@ -1,6 +1,6 @@
-use native.Mathlib.Omega.{arith}
-use Rattle·timing·proofs.Generating.{generated-next}
-use Rattle·timing·proofs.GeneratedTapeTape.next.Needs as need
+use Rattle.std.proofs.Common.{arith}
+use Rattle.timing.specs.Generating.{generated_next}
+use Rattle.timing.proofs.GeneratedTapeTape.next.Goals as goal
 
-pub returns : need.returns
-returns c = record { takes = generated-next (c .args .self .now .state) (c .args .self .now .count) (omega arith) }
+pub returns : goal.returns
+returns c = record { takes = generated_next c.args.self.now.state c.args.self.now.count (omega arith) }

@@ -1,6 +1,6 @@
-use mathlib.Core.Path.{sym}
-use Rattle·timing·proofs.Generating.{generated-length}
-use Rattle·timing·proofs.GeneratedTapeTape.waiting.Needs as need
+use Rattle.std.proofs.Common.{sym}
+use Rattle.timing.specs.Generating.{generated_length}
+use Rattle.timing.proofs.GeneratedTapeTape.waiting.Goals as goal
 
-pub returns : need.returns
-returns c = record { counts = sym (generated-length _ _) }
+pub returns : goal.returns
+returns c = record { counts = sym (generated_length _ _) }

@@ -1,23 +1,19 @@
-use mathlib.Core.Path.{sym, ap, _∙_}
-use mathlib.Core.Logic.{inl, inr}
-use Prim.Native.Nat.{ℕ, _-_}
-use native.Mathlib.Omega.{arith}
-use Rattle·std.specs.Of.Vec.{vec-items}
-use Rattle·cumulative·specs.Access.{numbers, forbidden-sets}
-use Rattle·cumulative·specs.Records.{noted, record-numbers}
-use Rattle·cumulative·proofs.CumulativeFacts.{record-outside, record-inside}
-use Rattle·cumulative·proofs.RecordFacts.{number-at}
-use Rattle·cumulative·proofs.cumulative.Cumulative.record.Needs as need
-use Rattle·cumulative·proofs.cumulative.Cumulative.record.Needs.{then-keyholder-lt1·by·then-keyholder-lt1, then-keyholder-lt1·by·else-keyholder-lt1·then-keyholder-self}
+use Rattle.std.proofs.Common.{ℕ, ◌-◌, vec_items, sym, ap, ◌∙◌, inl, inr, arith}
+use Rattle.cumulative.specs.Access.{numbers, forbidden_sets}
+use Rattle.cumulative.specs.Records.{noted, record_numbers}
+use Rattle.cumulative.proofs.CumulativeFacts.{record_outside, record_inside}
+use Rattle.cumulative.proofs.RecordFacts.{number_at}
+use Rattle.cumulative.proofs.cumulative.Cumulative.record.Goals as goal
+use Rattle.cumulative.proofs.cumulative.Cumulative.record.Goals.{then-keyholder-lt1-via-then-keyholder-lt1, then-keyholder-lt1-via-else-keyholder-lt1+then-keyholder-self}
 
-pub returns-then-keyholder-lt1 : need.returns-then-keyholder-lt1
+pub returns-then-keyholder-lt1 : goal.returns-then-keyholder-lt1
 returns-then-keyholder-lt1 c q =
-    let s = c .args .self .now in
-    record-outside (s .n) (forbidden-sets (s .n) (numbers (vec-items (s .minimal)))) (c .args .keyholder) (c .empty-record .result .rows .bits) q
-    (elim (c .then-keyholder-lt1 .came) [ then-keyholder-lt1·by·then-keyholder-lt1 w ↦ inl (w .if-keyholder-lt1 .taken) | then-keyholder-lt1·by·else-keyholder-lt1·then-keyholder-self w ↦ inr (w .if-keyholder-self .taken) ]) (c .empty-record .ensures)
+    let s = c.args.self.now in
+    record_outside s.n (forbidden_sets s.n (numbers (vec_items s.minimal))) c.args.keyholder c.empty-record.result.rows.bits q
+    (elim c.then-keyholder-lt1.branch [ then-keyholder-lt1-via-then-keyholder-lt1 w ↦ inl w.if-keyholder-lt1.true | then-keyholder-lt1-via-else-keyholder-lt1+then-keyholder-self w ↦ inr w.if-keyholder-self.true ]) c.empty-record.ensures
 
-pub returns : need.returns
+pub returns : goal.returns
 returns c q =
-    let s = c .args .self .now in
-    ap (λ (x : ℕ). noted x q) (sym (number-at (s .records) (c .args .keyholder - 1)))
-    ∙ record-inside (s .n) (forbidden-sets (s .n) (numbers (vec-items (s .minimal)))) (record-numbers (s .records)) (c .args .keyholder) q (s .kept) (omega arith) (omega arith)
+    let s = c.args.self.now in
+    ap (λ (x : ℕ). noted x q) (sym (number_at s.records (c.args.keyholder - 1)))
+    ∙ record_inside s.n (forbidden_sets s.n (numbers (vec_items s.minimal))) (record_numbers s.records) c.args.keyholder q s.kept (omega arith) (omega arith)

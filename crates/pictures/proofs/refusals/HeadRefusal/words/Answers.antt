@@ -1,6 +1,6 @@
-use mathlib.Core.Path.{ap, sym}
-use Rattle·pictures·specs.Refusals.{head-words-of}
-use Rattle·pictures·proofs.refusals.HeadRefusal.words.Needs as need
+use Rattle.std.proofs.Common.{sym, ap}
+use Rattle.pictures.specs.Refusals.{head_words_of}
+use Rattle.pictures.proofs.refusals.HeadRefusal.words.Goals as goal
 
-pub returns-in-Size : need.returns-in-Size
-returns-in-Size c = ap head-words-of (sym (c .in-Size .is))
+pub returns-in-Size : goal.returns-in-Size
+returns-in-Size c = ap head_words_of (sym c.in-Size.is)

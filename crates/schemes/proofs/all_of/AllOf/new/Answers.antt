@@ -1,8 +1,7 @@
-use mathlib.Core.Path.{refl}
-use native.Mathlib.Omega.{arith}
-use Rattle·std.proofs.shelf.Ways.{tells}
-use Rattle·schemes·proofs.AllOfFacts.{all-of-levels}
-use Rattle·schemes·proofs.all_of.AllOf.new.Needs as need
+use Rattle.std.proofs.Common.{refl, arith}
+use Rattle.std.proofs.lemmas.Bool.Decides.{nat_tests}
+use Rattle.schemes.specs.AllOfFacts.{all_of_levels}
+use Rattle.schemes.proofs.all_of.AllOf.new.Goals as goal
 
-pub returns : need.returns
-returns c = record { refusal = grind (arith, tells); made = refl; levels = all-of-levels (c .args .n) (omega arith) }
+pub returns : goal.returns
+returns c = record { refusal = grind (arith, nat_tests); made = refl; levels = all_of_levels c.args.n (omega arith) }

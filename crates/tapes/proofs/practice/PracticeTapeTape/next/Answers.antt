@@ -1,10 +1,9 @@
-use native.Mathlib.Omega.{arith}
-use Prim.Native.Nat.{_<_}
-use Rattle·tapes·proofs.Runs.{run-next}
-use Rattle·tapes·proofs.practice.PracticeTapeTape.next.Needs as need
+use Rattle.std.proofs.Common.{◌<◌, arith}
+use Rattle.tapes.specs.Runs.{run_next}
+use Rattle.tapes.proofs.practice.PracticeTapeTape.next.Goals as goal
 
-pub returns : need.returns
+pub returns : goal.returns
 returns c =
-    let tape = c .args .self .now in
-    let some : 0 < tape .count = omega arith in
-    record { takes = run-next (tape .byte) (tape .step) (tape .count) (omega arith) some }
+    let tape = c.args.self.now in
+    let some : 0 < tape.count = omega arith in
+    record { takes = run_next tape.byte tape.step tape.count (omega arith) some }

@@ -1,6 +1,6 @@
-use mathlib.Core.Path.{sym}
-use Rattle·tapes·proofs.Runs.{run-length}
-use Rattle·tapes·proofs.practice.PracticeTapeTape.waiting.Needs as need
+use Rattle.std.proofs.Common.{sym}
+use Rattle.tapes.specs.Runs.{run_length}
+use Rattle.tapes.proofs.practice.PracticeTapeTape.waiting.Goals as goal
 
-pub returns : need.returns
-returns c = record { counts = sym (run-length _ _ _) }
+pub returns : goal.returns
+returns c = record { counts = sym (run_length _ _ _) }

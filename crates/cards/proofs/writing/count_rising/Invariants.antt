@@ -1,0 +1,12 @@
+use Rattle.std.proofs.Common.{◌≡◌, ◌+◌, ◌-◌, ◌≤◌, length, get_or, drop}
+use Rattle.cumulative.specs.Access.{numbers}
+use Rattle.cards.specs.Reading.{rising_front, rising_after}
+use Rattle.cards.proofs.writing.count_rising.Given as goal
+
+abbrev pub invariant-loop-front : goal.invariant-loop-front
+invariant-loop-front l =
+    (1 ≤ l.front) × (l.front ≤ length l.sets)
+    × (rising_front (numbers l.sets) ≡ l.front + rising_after (get_or (numbers l.sets) (l.front - 1) 0) (drop l.front (numbers l.sets)))
+
+abbrev pub decreases-loop-front : goal.decreases-loop-front
+decreases-loop-front l = length l.sets - l.front

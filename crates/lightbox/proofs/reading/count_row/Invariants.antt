@@ -1,0 +1,5 @@
+use Rattle.lightbox.proofs.ReadFacts.{ReadSoFar}
+use Rattle.lightbox.proofs.reading.count_row.Given as goal
+
+abbrev pub invariant-loop-c : goal.invariant-loop-c
+invariant-loop-c l = ReadSoFar l.m l.light l.dark l.w l.glass l.c l.out

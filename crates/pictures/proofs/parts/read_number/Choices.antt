@@ -1,8 +1,0 @@
-use mathlib.Core.Path.{_≡_}
-use Prim.Native.Nat.{_+_, _≤_}
-use lib.ListN.{drop}
-use Rattle·pictures·specs.Reading.{digits, number}
-use Rattle·pictures·proofs.parts.read_number.Given as given
-
-abbrev pub Inv-loop-at : given.InvT-loop-at
-Inv-loop-at l = (l .n ≤ l .limit + 1) × (digits (l .limit) (l .bytes) (l .n) (drop (l .at) (l .bytes)) ≡ number (l .limit) (l .bytes))
