@@ -1,5 +1,5 @@
-// Whole films: the sets of keyholders that a run is checked through, and the films of a run as picture files.
-// It rests on the crates of schemes and of pictures.
+// Whole films: the sets of keyholders that a run is checked through, and the rows of one film out of the strips of a run.
+// It rests on the crates schemes and cumulative.
 #![tactic(auto)]
 
 mod minimal;
