@@ -1,19 +1,16 @@
 -- Sets of keyholders, by the tests on their numbers that the code makes.
-use Rattle.std.proofs.Common.{◌≡◌, ℕ, zero, suc, ◌+◌, ◌-◌, ◌^◌, ◌<◌, ◌≤◌, min, Bool, true, false, ◌&&◌, ◌||◌, eqb, ltb, leb, Decides, sym, refl, ap, ◌∙◌, inl, inr, add-one, arith, pow_pos, pow_mono}
+use Rattle.std.proofs.Common.{◌≡◌, ℕ, zero, suc, ◌+◌, ◌-◌, ◌^◌, ◌<◌, ◌≤◌, min, Bool, true, false, ◌&&◌, ◌||◌, eqb, ltb, leb, Decides, sym, refl, ap, ◌∙◌, inl, inr, arith, pow_pos, pow_mono}
 use Rattle.std.specs.Prelude.{count_ones}
+use Rattle.std.specs.Ordering.{is_le, nat_cmp}
 use Rattle.std.specs.Int.Bits.{bit_and, bit_or, and_lt}
+use Rattle.std.proofs.Math.Bool.{or_comm}
 use Rattle.std.proofs.Math.Dec.{eqb-suc-suc}
-use Rattle.std.proofs.lemmas.Bool.{cases_lt, eqb-true, eq-eqb, ne_eqb, and_parts, and_from, and_left, and_right}
+use Rattle.std.proofs.lemmas.Bool.{cases_lt, eqb-true, eq-eqb, ne_eqb, and_parts, and_from, and_left}
 use Rattle.std.proofs.lemmas.Bool.Decides.{nat_tests}
-use Rattle.schemes.specs.Bits.{bit, any_below}
+use Rattle.schemes.specs.Bits.{bit}
 use Rattle.schemes.specs.Keyholders.{most_keyholders, member, Within, Empty, members_among, size, everyone}
-use Rattle.schemes.specs.TestFacts.{any_true, any_next, count_none, count_add}
+use Rattle.schemes.specs.TestFacts.{count_none, count_add}
 use Rattle.schemes.specs.BitFacts.{bit_of_0, bit-and, bit-or, bit_pow, bit_past, bit_same, ones_counted}
-
--- a member, by the bit below its number
-pub member_bit : (set i : ℕ) → 1 ≤ i → bit set (i - 1) ≡ member set i
-member_bit set zero l = absurd (omega arith)
-member_bit set (suc k) l = let e : suc k - 1 ≡ k = omega arith in rw e refl
 
 -- nobody is above the width of a set
 pub member_above : (set i : ℕ) → set < 2 ^ most_keyholders → most_keyholders < i → member set i ≡ false
@@ -31,13 +28,7 @@ member_with set zero j l = absurd (omega arith)
 member_with set (suc k) zero l = rw (ne_eqb 0 (suc k) (λ e. omega arith)) refl
 member_with set (suc k) (suc j) l =
     let e : suc k - 1 ≡ k = omega arith in
-    rw e (bit-or set (2 ^ k) j ∙ ap (λ (b : Bool). bit set j || b) (bit_pow k j) ∙ or_swap (bit set j) (eqb j k) ∙ ap (λ (b : Bool). b || bit set j) (sym (eqb-suc-suc j k)))
-  where
-    or_swap : (a b : Bool) → (a || b) ≡ (b || a)
-    or_swap true true = refl
-    or_swap true false = refl
-    or_swap false true = refl
-    or_swap false false = refl
+    rw e (bit-or set (2 ^ k) j ∙ ap (λ (b : Bool). bit set j || b) (bit_pow k j) ∙ or_comm (bit set j) (eqb j k) ∙ ap (λ (b : Bool). b || bit set j) (sym (eqb-suc-suc j k)))
 
 -- containing, by the bits that are in both
 pub within_decided : (a b : ℕ) → a < 2 ^ most_keyholders → b < 2 ^ most_keyholders → Decides (eqb (bit_and a b) a) (Within a b)
@@ -61,9 +52,12 @@ empty_decided set p = (λ e. none (eqb-true set 0 e), λ h. eq-eqb set 0 (bit_sa
     none e zero = refl
     none e (suc k) = ap (λ (x : ℕ). bit x k) e ∙ bit_of_0 k
 
--- the sets of keyholders 1 to n are those up to the set of all
-pub among_decided : (n set : ℕ) → set < 2 ^ most_keyholders → leb set (everyone (min n most_keyholders)) ≡ ltb set (2 ^ n)
-among_decided n set p = elim (cases_lt n most_keyholders) [
+is_le_test : (a b : ℕ) → is_le (nat_cmp a b) ≡ leb a b
+is_le_test a b = grind (arith, nat_tests)
+
+-- the sets of keyholders 1 to n are those up to the set of all, in the order of sets
+pub among_decided : (n set : ℕ) → set < 2 ^ most_keyholders → is_le (nat_cmp set (everyone (min n most_keyholders))) ≡ ltb set (2 ^ n)
+among_decided n set p = is_le_test set (everyone (min n most_keyholders)) ∙ elim (cases_lt n most_keyholders) [
   | inl l ↦
       let e : min n most_keyholders ≡ n = omega arith in
       let pos = pow_pos n in
@@ -84,20 +78,3 @@ size_among n set l b =
     let e : most_keyholders ≡ n + (most_keyholders - n) = omega arith in
     let none = count_none (most_keyholders - n) (λ i. bit set (n + i)) (λ i h. bit_past n set (n + i) b (omega arith)) in
     ap (λ (x : ℕ). members_among x set) e ∙ count_add n (most_keyholders - n) (bit set) ∙ omega (arith, none)
-
--- ---- the loop over the members of a set, whose cells at one column are given
-
-module _ (set : ℕ) (cell : ℕ → Bool) where
-  abbrev pub stacked : ℕ → Bool
-  stacked k = member set (suc k) && cell (suc k)
-
-  pub stack_found : (n k : ℕ) → k < n → true ≡ member set (k + 1) → true ≡ cell (k + 1) → true ≡ any_below n stacked
-  stack_found n k l e f =
-      let up : k + 1 ≡ suc k = add-one k in
-      sym (any_true n stacked k l (and_from (member set (suc k)) (cell (suc k)) (ap (member set) (sym up) ∙ sym e) (ap cell (sym up) ∙ sym f)))
-
-  pub stack_white : (k : ℕ) → any_below k stacked ≡ false → false ≡ cell (k + 1) → any_below (k + 1) stacked ≡ false
-  stack_white k h f = any_next k stacked h (and_right (member set (suc k)) (cell (suc k)) (ap cell (sym (add-one k)) ∙ sym f))
-
-  pub stack_other : (k : ℕ) → any_below k stacked ≡ false → false ≡ member set (k + 1) → any_below (k + 1) stacked ≡ false
-  stack_other k h e = any_next k stacked h (and_left (member set (suc k)) (cell (suc k)) (ap (member set) (sym (add-one k)) ∙ sym e))

@@ -1,3 +1,4 @@
 pub mod KeyholderFacts
 pub mod PackedFacts
+pub mod RangeFacts
 pub mod StripFacts

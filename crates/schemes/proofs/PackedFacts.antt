@@ -7,7 +7,7 @@ use Rattle.std.proofs.Math.Pow.{pow-lt}
 use Rattle.std.proofs.lemmas.Nat.{or_lt}
 use Rattle.std.proofs.lemmas.List.FromFn.{get_or-map-range_with_len, length-map-range_with_len}
 use Rattle.std.proofs.lemmas.List.{ext_get_or, get_or_past, get_or-set_same, get_or-set_other, get_or-replicate, length-replicate}
-use Rattle.std.proofs.lemmas.Bool.{cases_eq, cases_lt, eq-eqb, ne_eqb, lt-ltb, le-ltb, or_left, or_right}
+use Rattle.std.proofs.lemmas.Bool.{cases_eq, cases_lt, eq-eqb, ne_eqb, lt-ltb, or_left, or_right}
 use Rattle.schemes.specs.Bits.{bit}
 use Rattle.schemes.specs.PackedRows.{bit_at, byte_of, packed, Bytes}
 use Rattle.schemes.specs.BitFacts.{bit_of_0, bit-or, bit_pow, bit_same, bit_number_of, number_of_below}
@@ -20,9 +20,9 @@ unfolding bit_at
 bit_at_byte row q p l = ap₂ (λ (i j : ℕ). bit (get_or row i 0) (7 - j)) (omega arith) (omega arith)
 
 -- as the code reads it
-pub bit_at_is : (row : List ℕ) (k : ℕ) → bit (get_or row (k / 8) 0) (7 - k % 8) ≡ bit_at row k
+pub bit_at_is : (row : List ℕ) (k b : ℕ) → b ≡ get_or row (k / 8) 0 → bit b (7 - k % 8) ≡ bit_at row k
 unfolding bit_at
-bit_at_is row k = refl
+bit_at_is row k b e = ap (λ (x : ℕ). bit x (7 - k % 8)) e
 
 pub bit_at_past : (row : List ℕ) (k : ℕ) → length row ≤ k / 8 → bit_at row k ≡ false
 unfolding bit_at
@@ -66,8 +66,7 @@ module _ (size : ℕ) (bits : ℕ → Bool) where
   -- the bits of a packed row are those that it was packed of
   pub bit_at_packed : (k : ℕ) → k < 8 * size → bit_at (packed size bits) k ≡ bits k
   bit_at_packed k l =
-      sym (bit_at_is (packed size bits) k)
-      ∙ ap (λ (b : ℕ). bit b (7 - k % 8)) (packed_byte (k / 8) (omega arith))
+      sym (bit_at_is (packed size bits) k (byte_at (k / 8)) (sym (packed_byte (k / 8) (omega arith))))
       ∙ byte_of_bit (λ j. bits (8 * (k / 8) + j)) (k % 8) (omega arith)
       ∙ ap bits (omega arith)
 
@@ -144,15 +143,3 @@ module _ (row : List ℕ) (k : ℕ) (within : k / 8 < length row) where
         let b = h i in
         omega arith
   ]
-
--- past the end nothing is set
-pub bit_unset : (row : List ℕ) (k : ℕ) → length row ≤ k / 8 → (j : ℕ) → bit_at row j ≡ ((eqb j k && ltb k (8 * length row)) || bit_at row j)
-bit_unset row k l j =
-    elim (cases_lt k (8 * length row)) [
-      | inl h ↦ absurd (omega arith)
-      | inr h ↦ sym (ap (λ (b : Bool). b || bit_at row j) (none (eqb j k)))
-    ]
-  where
-    none : (b : Bool) → (b && ltb k (8 * length row)) ≡ false
-    none true = le-ltb k (8 * length row) (omega arith)
-    none false = refl

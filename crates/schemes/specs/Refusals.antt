@@ -1,5 +1,5 @@
 -- Why a scheme is not made: the number and the place of each refusal.
-use Rattle.std.specs.Prelude.{ℕ, cond, ◌||◌, Some, None, Ok, Err, Option, Result, nat_lt}
+use Rattle.std.specs.Prelude.{ℕ, Bool, cond, ◌||◌, List, [], ◌∷◌, Some, None, Ok, Err, Option, Result, nat_lt}
 use Rattle.schemes.specs.Keyholders.{most_keyholders}
 use Rattle.schemes.specs.declared.refusals.SchemeRefusal.{SchemeRefusal}
 use Rattle.schemes.specs.declared.refusals.SchemeRefusal.TheVariants.{Keyholders, ListLength, Members, Redundant, ForbiddenSets, Memory}
@@ -30,3 +30,8 @@ refusal_in (Err why) = Some why
 -- The refusal of a number of keyholders that is outside least to 8.
 abbrev pub keyholders_from : (least n : ℕ) → Option SchemeRefusal
 keyholders_from least n = cond (nat_lt n least || nat_lt most_keyholders n) (Some Keyholders) None
+
+-- The first refusal of a list whose test applies.
+abbrev pub first_refusal : {A : Type 0} → List (Bool × A) → Option A
+first_refusal [] = None
+first_refusal (check ∷ more) = cond check.0 (Some check.1) (first_refusal more)

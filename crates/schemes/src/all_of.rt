@@ -2,12 +2,13 @@
 ghost use Rattle.std.specs.Prelude.{◌≡◌, ◌^◌, ◌<◌, ◌≤◌, IfOk, OnOk};
 ghost use Rattle.schemes.specs.Bits.{parity};
 ghost use Rattle.schemes.specs.Keyholders.{most_keyholders};
-ghost use Rattle.schemes.specs.AllOf.{last_row, all_of, LevelsOfAll};
+ghost use Rattle.schemes.specs.AllOf.{row, all_of, LevelsOfAll};
 ghost use Rattle.schemes.specs.Refusals.{refusal_in, keyholders_from};
 ghost use Rattle.schemes.specs.AllOfFacts.{all_of_in_range, all_of_lawful};
 
 use crate::bits::has_bit;
-use crate::{Colour, KeyholderSet, MOST_KEYHOLDERS, Scheme, SchemeRefusal};
+use crate::scheme::has_cell;
+use crate::{Colour, KeyholderSet, Scheme, SchemeRefusal, check_keyholders};
 
 // Whether an odd number of a column's bits is set.
 fn is_odd(column: u8, width: u8) -> bool
@@ -17,11 +18,14 @@ fn is_odd(column: u8, width: u8) -> bool
     column.count_ones() % 2 == 1
 }
 
-// The cell of the last keyholder, at a column of so many bits.
-fn last_cell(width: u8, colour: Colour, column: u8) -> bool
-    requires { column < 2 ^ width }
-    ensures { result ≡ last_row width colour column }
+// The cell of row k, that of keyholder k + 1, where the columns have so many bits.
+fn row_cell(width: u8, colour: Colour, k: u8, column: u8) -> bool
+    requires { (width < 8) × (column < 2 ^ width) }
+    ensures { result ≡ row width colour k column }
 {
+    if k < width {
+        return has_bit(column, k);
+    }
     match colour {
         Colour::White => is_odd(column, width),
         Colour::Black => !is_odd(column, width),
@@ -43,9 +47,7 @@ impl AllOf {
         ensures made { IfOk result (λ s. s.n ≡ n) }
         ensures levels { OnOk result (LevelsOfAll n) }
     {
-        if n < 1 || n > MOST_KEYHOLDERS {
-            return Err(SchemeRefusal::Keyholders);
-        }
+        check_keyholders(1, n)?;
         Ok(AllOf { n })
     }
 }
@@ -66,16 +68,11 @@ impl Scheme for AllOf {
     }
 
     fn cell(&self, colour: Colour, keyholder: u8, column: u8) -> bool {
-        if keyholder < 1 || keyholder > self.n || column >= self.columns() {
-            return false;
-        }
-        if keyholder < self.n {
-            return has_bit(column, keyholder - 1);
-        }
-        last_cell(self.n - 1, colour, column)
+        has_cell(self.n, self.columns(), keyholder, column)
+            && row_cell(self.n - 1, colour, keyholder - 1, column)
     }
 
     fn qualified(&self, set: KeyholderSet) -> bool {
-        set.bits() == KeyholderSet::everyone(self.n).bits()
+        set == KeyholderSet::everyone(self.n)
     }
 }

@@ -15,25 +15,16 @@ pub struct Levels {
 fn is_stack_black<S: Scheme>(scheme: &S, colour: Colour, set: KeyholderSet, column: u8) -> bool
     ensures { result ≡ stack (S.means scheme.now) colour set.bits column }
 {
-    for k in 0..scheme.keyholders() {
-        if set.has(k + 1) && scheme.cell(colour, k + 1, column) {
-            return true;
-        }
-    }
-    false
+    (1..=scheme.keyholders()).any(|i| set.has(i) && scheme.cell(colour, i, column))
 }
 
-// At how many columns they are.
+// At how many columns the stack is black.
 fn count_blacks<S: Scheme>(scheme: &S, colour: Colour, set: KeyholderSet) -> u8
     ensures { result ≡ blacks (S.means scheme.now) colour set.bits }
 {
-    let mut total = 0;
-    for column in 0..scheme.columns() {
-        if is_stack_black(scheme, colour, set, column) {
-            total += 1;
-        }
-    }
-    total
+    (0..scheme.columns())
+        .filter(|column| is_stack_black(scheme, colour, set, *column))
+        .count() as u8
 }
 
 // Light and dark of any set, qualified or not; keyholders above n show nothing.

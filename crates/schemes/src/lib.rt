@@ -15,7 +15,7 @@ mod two_of;
 
 pub use all_of::AllOf;
 pub use colour::Colour;
-pub use keyholders::{KeyholderSet, MOST_KEYHOLDERS};
+pub use keyholders::{KeyholderSet, MOST_KEYHOLDERS, check_keyholders};
 pub use levels::{Levels, levels_of};
 pub use packed_rows::{bit_at, bytes_for, set_bit};
 pub use refusals::SchemeRefusal;

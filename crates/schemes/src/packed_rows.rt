@@ -12,30 +12,12 @@ pub fn bytes_for(bits: usize) -> usize
     bits.div_ceil(8)
 }
 
-// Bit k of a row that reaches so far.
-fn read_bit(row: &[u8], k: usize) -> bool
-    requires { k / 8 < length row.now }
-    ensures { result ≡ bit (slice_index row.now (k / 8)) (7 - k % 8) }
-{
-    has_bit(row[k / 8], 7 - (k % 8) as u8)
-}
-
 // Bit k of a row; 0 past its end.
 pub fn bit_at(row: &[u8], k: usize) -> bool
     ensures { result ≡ bit_at row.now k }
 {
-    if k / 8 >= row.len() {
-        return false;
-    }
-    read_bit(row, k)
-}
-
-// Sets bit k of a row that reaches so far.
-fn mark_bit(row: &mut [u8], k: usize)
-    requires { k / 8 < length row.old }
-    ensures { row.new ≡ slice_set row.old (k / 8) (bit_or (slice_index row.old (k / 8)) (2 ^ (7 - k % 8))) }
-{
-    row[k / 8] = with_bit(row[k / 8], 7 - (k % 8) as u8);
+    row.get(k / 8)
+        .is_some_and(|byte| has_bit(*byte, 7 - (k % 8) as u8))
 }
 
 // Sets bit k of a row, and no other. A bit past the row's end changes nothing.
@@ -43,7 +25,8 @@ pub fn set_bit(row: &mut [u8], k: usize)
     ensures bits { (j : ℕ) → bit_at row.new j ≡ ((j == k && nat_lt k (8 * length row.old)) || bit_at row.old j) }
     ensures bytes { ((i : ℕ) → slice_index row.old i < 256) → (i : ℕ) → slice_index row.new i < 256 }
 {
+    // An index: no clause says what a slice holds after a write through `get_mut`.
     if k / 8 < row.len() {
-        mark_bit(row, k);
+        row[k / 8] = with_bit(row[k / 8], 7 - (k % 8) as u8);
     }
 }

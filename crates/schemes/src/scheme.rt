@@ -1,5 +1,5 @@
 // The interface of a scheme. Its meaning is one record, and every implementation proves the laws.
-ghost use Rattle.std.specs.Prelude.{◌≡◌};
+ghost use Rattle.std.specs.Prelude.{◌≡◌, ◌&&◌, nat_le, nat_lt};
 ghost use Rattle.schemes.specs.Meaning.{Meaning};
 ghost use Rattle.schemes.specs.Laws.{InRange, Lawful};
 
@@ -35,4 +35,11 @@ pub trait Scheme {
 
     // The four laws.
     ghost lawful: { (s : Self) → Lawful (means s) };
+}
+
+// Whether a scheme of n keyholders and m columns has this keyholder and this column.
+pub(crate) fn has_cell(n: u8, m: u8, keyholder: u8, column: u8) -> bool
+    ensures { result ≡ (nat_le 1 keyholder && nat_le keyholder n && nat_lt column m) }
+{
+    (1..=n).contains(&keyholder) && column < m
 }

@@ -14,7 +14,7 @@ pub const MOST_SQUARES: u64 = 32768;
 pub fn strip_squares(columns: u8, pixels: u32) -> u64
     ensures { result ≡ strip_squares columns pixels }
 {
-    pixels as u64 * columns as u64
+    u64::from(pixels) * u64::from(columns)
 }
 
 // How many bytes a strip has, for so many columns and pixels.

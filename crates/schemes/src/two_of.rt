@@ -5,7 +5,8 @@ ghost use Rattle.schemes.specs.TwoOf.{row, two_of, LevelsOfTwo};
 ghost use Rattle.schemes.specs.Refusals.{refusal_in, keyholders_from};
 ghost use Rattle.schemes.specs.TwoOfFacts.{two_of_in_range, two_of_lawful};
 
-use crate::{Colour, KeyholderSet, MOST_KEYHOLDERS, Scheme, SchemeRefusal};
+use crate::scheme::has_cell;
+use crate::{Colour, KeyholderSet, Scheme, SchemeRefusal, check_keyholders};
 
 // The cell of row k, that of keyholder k + 1.
 fn row_cell(colour: Colour, k: u8, column: u8) -> bool
@@ -17,15 +18,8 @@ fn row_cell(colour: Colour, k: u8, column: u8) -> bool
     }
 }
 
-// How many members a set of keyholders 1 to n has.
-fn count_among(n: u8, set: KeyholderSet) -> u8
-    requires { (n ≤ most_keyholders) × (set.bits < 2 ^ n) }
-    ensures { result ≡ members_among n set.bits }
-{
-    set.len()
-}
-
 // The scheme in which the sets of two and more of n keyholders are qualified.
+// A struct of its own: a generic one is no plainer, named by its table, its least n and the lemmas of its laws.
 #[derive(Clone, Copy)]
 pub struct TwoOf {
     n: u8,
@@ -40,9 +34,7 @@ impl TwoOf {
         ensures made { IfOk result (λ s. s.n ≡ n) }
         ensures levels { LevelsOfTwo n }
     {
-        if n < 2 || n > MOST_KEYHOLDERS {
-            return Err(SchemeRefusal::Keyholders);
-        }
+        check_keyholders(2, n)?;
         Ok(TwoOf { n })
     }
 }
@@ -63,13 +55,10 @@ impl Scheme for TwoOf {
     }
 
     fn cell(&self, colour: Colour, keyholder: u8, column: u8) -> bool {
-        if keyholder < 1 || keyholder > self.n || column >= self.n {
-            return false;
-        }
-        row_cell(colour, keyholder - 1, column)
+        has_cell(self.n, self.n, keyholder, column) && row_cell(colour, keyholder - 1, column)
     }
 
     fn qualified(&self, set: KeyholderSet) -> bool {
-        set.is_among(self.n) && count_among(self.n, set) >= 2
+        set.is_among(self.n) && set.len() >= 2
     }
 }

@@ -1,21 +1,18 @@
 // The tables of small schemes, worked by hand, and questions at the edges.
 use schemes::{
-    AllOf, Colour, KeyholderSet, Levels, Scheme, SchemeRefusal, TwoOf, bit_at, levels_of, set_bit,
+    AllOf, Colour, KeyholderSet, Levels, MOST_COLUMNS, MOST_KEYHOLDERS, Scheme, SchemeRefusal,
+    TwoOf, bit_at, levels_of, set_bit,
 };
 use std::process::Abort;
 use std::test::Fail;
 
 // Each keyholder's cells at columns 0 to m - 1, against rows of '0' and '1'.
 fn check_films<S: Scheme>(rt: &impl Abort, scheme: &S, colour: Colour, rows: &[&str]) {
-    for (k, row) in rows.iter().enumerate() {
+    assert_eq!(rt; rows.len(), usize::from(scheme.keyholders()));
+    for (keyholder, row) in (1..=MOST_KEYHOLDERS).zip(rows) {
         assert_eq!(rt; row.len(), usize::from(scheme.columns()));
-        for (column, cell) in row.bytes().enumerate() {
-            if k < 8 && column < 128 {
-                assert_eq!(rt;
-                    scheme.cell(colour, k as u8 + 1, column as u8),
-                    cell == b'1'
-                );
-            }
+        for (column, cell) in (0..MOST_COLUMNS).zip(row.bytes()) {
+            assert_eq!(rt; scheme.cell(colour, keyholder, column), cell == b'1');
         }
     }
 }
@@ -27,12 +24,9 @@ fn all_of_three(rt: HostRuntime) -> Result<(), Fail> {
     check_films(&rt, &scheme, Colour::Black, &["0101", "0011", "1001"]);
     let everyone = KeyholderSet::from_bits(0b111);
     assert_eq!(rt; levels_of(&scheme, everyone), Levels { light: 3, dark: 4 });
-    for bits in 0..=255 {
-        assert_eq!(rt;
-            scheme.qualified(KeyholderSet::from_bits(bits)),
-            bits == 0b111
-        );
-    }
+    assert!(rt;
+        (0..=u8::MAX).all(|bits| scheme.qualified(KeyholderSet::from_bits(bits)) == (bits == 0b111))
+    );
     assert_eq!(rt; scheme.cell(Colour::Black, 0, 0), false);
     assert_eq!(rt; scheme.cell(Colour::Black, 4, 0), false);
     assert_eq!(rt; scheme.cell(Colour::Black, 3, 4), false);
@@ -68,16 +62,12 @@ fn edges_of_n(rt: HostRuntime) -> Result<(), Fail> {
     }
     assert_eq!(rt; AllOf::new(8)?.columns(), 128);
     assert_eq!(rt; TwoOf::new(8)?.columns(), 8);
-    match AllOf::new(0) {
-        Ok(_) => {
-            assert!(rt; false);
-            Ok(())
-        },
-        Err(why) => {
-            assert_eq!(rt; (why.number(), why.place()), (7, 0));
-            Ok(())
-        },
-    }
+    let refusal = AllOf::new(0).err();
+    assert_eq!(rt;
+        refusal.map(|why| (why.number(), why.place())),
+        Some((7, 0))
+    );
+    Ok(())
 }
 
 #[test]
@@ -91,6 +81,7 @@ fn sets(rt: HostRuntime) {
             && !set.contains(KeyholderSet::from_bits(0b111))
     );
     assert!(rt; KeyholderSet::from_bits(0).is_empty() && !set.is_empty());
+    assert!(rt; KeyholderSet::default().is_empty());
     assert!(rt; set.is_among(8) && !set.is_among(7) && KeyholderSet::everyone(3).is_among(3));
     assert_eq!(rt; KeyholderSet::everyone(3).bits(), 7);
     assert_eq!(rt; KeyholderSet::everyone(9).bits(), 255);

@@ -1,18 +1,10 @@
 use Rattle.std.proofs.Common.{rules}
 use Rattle.schemes.specs.Meaning.{stack}
-use Rattle.schemes.specs.TestFacts.{count_le, count_found, count_passed}
+use Rattle.schemes.proofs.RangeFacts.{count_from_zero}
 use Rattle.schemes.proofs.levels.count_blacks.Goals as goal
-use Rattle.schemes.proofs.levels.count_blacks.Goals.{then-is_stack_black, else-is_stack_black}
 
-pub overflow_add-total : goal.overflow_add-total
-overflow_add-total g c =
-    let h = count_le c.loop-column.column (stack (g.S.Scheme.means c.args.scheme.now) c.args.colour c.args.set.bits) in
-    search rules
-
-pub loop-column-preserved : goal.loop-column-preserved
-loop-column-preserved g c =
-    let test = stack (g.S.Scheme.means c.args.scheme.now) c.args.colour c.args.set.bits in
-    elim c.if-is_stack_black.branch [
-      | then-is_stack_black w ↦ count_found c.loop-column.column test c.loop-column.total c.if-is_stack_black.total c.loop-column.invariant w.total-is w.if-is_stack_black.ensures
-      | else-is_stack_black w ↦ count_passed c.loop-column.column test c.loop-column.total c.if-is_stack_black.total c.loop-column.invariant w.total-is w.if-is_stack_black.ensures
-    ]
+pub returns : goal.returns
+returns g c =
+    let s = g.S.Scheme.means c.args.scheme.now in
+    count_from_zero _ _ (stack s c.args.colour c.args.set.bits) (λ x b f' k. search rules)
+    c.filter.result _ s.m c.count.result (search rules) (search rules) c.count.ensures.runs c.filter.ensures.runs

@@ -1,6 +1,0 @@
-use Rattle.std.proofs.Common.{arith}
-use Rattle.schemes.proofs.KeyholderFacts.{empty_decided}
-use Rattle.schemes.proofs.keyholders.are_none.Goals as goal
-
-pub returns : goal.returns
-returns c = empty_decided c.args.bits (omega arith)

@@ -1,6 +1,0 @@
-use Rattle.std.proofs.Common.{arith}
-use Rattle.schemes.proofs.KeyholderFacts.{ones_size}
-use Rattle.schemes.proofs.keyholders.count_members.Goals as goal
-
-pub returns : goal.returns
-returns c = ones_size c.args.bits (omega arith)
