@@ -1,9 +1,9 @@
 -- Columns arranged by digits: each of them once, by one list of digits only, and every arrangement by some. For the clauses
 -- `permutation` and `bijection` of `draw_order`.
 use Rattle.std.proofs.Common.{◌≡◌, ℕ, suc, ◌+◌, ◌-◌, ◌<◌, ◌≤◌, Bool, true, false, cond, eqb, List, [], ◌∷◌, length, get_or, take, drop, count_by, sym, refl, ap, ◌∙◌, subst, ap₂, arith}
-use Rattle.std.specs.List.{remove, AllByRecursion as All}
+use Rattle.std.specs.List.{remove, All}
 use Rattle.std.proofs.lemmas.List.Edits.{length-remove}
-use Rattle.std.proofs.ByRecursion.{All-append, All-take, All-drop, All-get_or}
+use Rattle.std.proofs.lemmas.List.Elements.{All-cons, All-append, All-take, All-drop}
 use Rattle.std.proofs.lemmas.List.{nil_from_length}
 use Rattle.std.proofs.lemmas.Bool.{eqb-true, eq-eqb}
 use Rattle.tapes.specs.Orders.{arranged}
@@ -25,7 +25,7 @@ comes_first columns d l o h = record {
   counts = λ test. count_by_cons test (get_or columns d 0) o ∙ ap (λ n. cond (test (get_or columns d 0)) 1 0 + n) (h.counts test) ∙ sym (count_by_removed test columns d l);
   below = λ m all.
       let P : ℕ → Type 0 = λ j. j < m in
-      (All-get_or P columns d 0 l all, h.below m (All-append P (take d columns) (drop (suc d) columns) (All-take P d columns all) (All-drop P (suc d) columns all)));
+      All-cons P (get_or columns d 0) o (all d 0 l) (h.below m (All-append P (take d columns) (drop (suc d) columns) (All-take P d columns all) (All-drop P (suc d) columns all)));
 }
 
 -- Digits below n, n - 1, down to 2.

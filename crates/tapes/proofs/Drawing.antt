@@ -1,25 +1,11 @@
 -- What was drawn, from what a call answers and leaves; for every function that draws, and for its callers.
-use Rattle.std.proofs.Common.{◌≡◌, ℕ, true, false, List, [], is_some, Some, None, Option, refl, arith}
-use Rattle.tapes.specs.Drawing.{Drawn, short, drawn, Draw, onward, value_of, rest_of, DrawnInPlace}
+use Rattle.std.proofs.Common.{◌≡◌, ℕ, List, Some, refl, arith}
+use Rattle.tapes.specs.Drawing.{Drawn, short, drawn, Draw, onward, value_of, rest_of}
 
 -- The answer and what it leaves, as what was drawn.
 pub from_answer : {A : Type 0} (a : A) (rest : List ℕ) (drawing : Drawn A) → Some a ≡ value_of drawing → rest ≡ rest_of drawing → drawing ≡ drawn a rest
 from_answer a rest short answer leaves = let z : ◌≡◌ {A = ℕ} 0 1 = cc in absurd (omega arith)
 from_answer a rest (drawn a' rest') answer leaves = cc
-
-pub from_none : {A : Type 0} (rest : List ℕ) (drawing : Drawn A) → None ≡ value_of drawing → rest ≡ rest_of drawing → (drawing ≡ short) × (rest ≡ [])
-from_none rest short answer leaves = (refl, leaves)
-from_none rest (drawn a rest') answer leaves = let z : ◌≡◌ {A = ℕ} 0 1 = cc in absurd (omega arith)
-
--- The two ways of a call that draws in place.
-module _ {A : Type 0} (drawing : Drawn A) (held : A) (rest : List ℕ) where
-  pub when_some : (r : Option (Unit {0})) → is_some r ≡ true → DrawnInPlace drawing r held rest → drawing ≡ drawn held rest
-  when_some None e h = let z : ◌≡◌ {A = ℕ} 0 1 = cc in absurd (omega arith)
-  when_some (Some _) e h = h
-
-  pub when_none : (r : Option (Unit {0})) → is_some r ≡ false → DrawnInPlace drawing r held rest → (drawing ≡ short) × (rest ≡ [])
-  when_none None e h = h
-  when_none (Some _) e h = let z : ◌≡◌ {A = ℕ} 0 1 = cc in absurd (omega arith)
 
 -- What was drawn in two steps was drawn in the first and then in the second.
 pub both_drawn : {A B : Type 0} (first : Drawn A) (next : A → Draw B) (b : B) (rest : List ℕ) → onward first next ≡ drawn b rest →

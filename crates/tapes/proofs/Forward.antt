@@ -1,9 +1,9 @@
 -- A column is brought to the front, place by place, and those before it are carried on by one: for `bring_forward`.
-use Rattle.std.proofs.Common.{◌≡◌, ℕ, zero, suc, ◌+◌, ◌<◌, ◌≤◌, Bool, true, false, cond, ltb, leb, ◌⊎◌, List, ◌∷◌, length, get_or, set, sym, refl, ap, ◌∙◌, inl, inr, add-one, arith}
+use Rattle.std.proofs.Common.{◌≡◌, ℕ, zero, suc, ◌+◌, ◌<◌, ◌≤◌, Bool, true, false, cond, ltb, leb, List, ◌∷◌, length, get_or, sym, refl, ap, ◌∙◌, add-one, arith}
 use Rattle.std.specs.List.{remove}
-use Rattle.std.proofs.lemmas.List.{ext_get_or, get_or-set_same, get_or-set_other}
+use Rattle.std.proofs.lemmas.List.{ext_get_or}
 use Rattle.std.proofs.lemmas.List.Edits.{length-remove}
-use Rattle.std.proofs.lemmas.Bool.{cases_order, le-leb, cond-true}
+use Rattle.std.proofs.lemmas.Bool.{le-leb, cond-true}
 use Rattle.tapes.proofs.Removals.{get_or_removed}
 
 module _ (xs : List ℕ) (d : ℕ) where
@@ -19,25 +19,6 @@ module _ (xs : List ℕ) (d : ℕ) where
     pub carry : carried ≡ carries j
     pub past : (i : ℕ) → i < j → get_or left i 0 ≡ moved i
     pub ahead : (i : ℕ) → j ≤ i → get_or left i 0 ≡ get_or xs i 0
-
-  pub forward_none : Forward 0 (get_or xs d 0) xs
-  forward_none = record { carry = refl; past = λ i l. absurd (omega arith); ahead = λ i _. refl }
-
-  pub forward_more : (j carried new : ℕ) (left : List ℕ) → Forward j carried left → j < length left → new ≡ cond (leb j d) carried (get_or left j 0) →
-      Forward (j + 1) (get_or left j 0) (set left j new)
-  forward_more j carried new left h l e = record {
-    carry = h.ahead j (omega arith) ∙ sym (ap carries (add-one j));
-    past = λ i b. go i b (cases_order i j);
-    ahead = λ i b. get_or-set_other left j i new 0 (λ same. omega arith) ∙ h.ahead i (omega arith);
-  }
-    where
-      here : new ≡ moved j
-      here = e ∙ ap (λ c. cond (leb j d) c (get_or left j 0)) h.carry ∙ ap (cond (leb j d) (carries j)) (h.ahead j (omega arith))
-
-      go : (i : ℕ) → i < j + 1 → (i ≡ j) ⊎ ((i < j) ⊎ (j < i)) → get_or (set left j new) i 0 ≡ moved i
-      go i b (inl same) = ap (λ k. get_or (set left j new) k 0) same ∙ get_or-set_same left j new 0 l ∙ here ∙ ap moved (sym same)
-      go i b (inr (inl less)) = get_or-set_other left j i new 0 (λ same. omega arith) ∙ h.past i less
-      go i b (inr (inr more)) = absurd (omega arith)
 
   later : (b : Bool) (i : ℕ) → cond b (get_or xs i 0) (get_or xs (suc i) 0) ≡ get_or xs (cond b i (i + 1)) 0
   later true i = refl

@@ -1,20 +1,12 @@
 -- The three outcomes of drawing an order into a slice: for `draw_order`, and for those who call it.
-use Rattle.std.proofs.Common.{◌≡◌, ℕ, ◌<◌, ◌≤◌, false, eqb, leb, ◌⊎◌, List, length, replicate, Some, None, Option, refl, ap, ◌∙◌, inl, inr, arith}
+use Rattle.std.proofs.Common.{◌≡◌, ℕ, ◌≤◌, leb, List, length, Some, None, Option, refl, ap, ◌∙◌, arith}
 use Rattle.std.proofs.lemmas.List.FromFn.{length-range_with_len}
-use Rattle.std.proofs.lemmas.Bool.{le-leb, lt-leb, and_from, and_left, and_right, cond-true, cond-false}
-use Rattle.std.proofs.lemmas.Bool.Decides.{nat_tests}
+use Rattle.std.proofs.lemmas.Bool.{le-leb, and_from, cond-true}
 use Rattle.tapes.specs.Drawing.{Drawn, short, drawn, DrawnInPlace}
 use Rattle.tapes.specs.Orders.{columns, arranging, order}
-use Rattle.tapes.specs.Blocks.{is_block, untouched, ordered, outcome}
-
-pub not_empty : (n : ℕ) → eqb n 0 ≡ false → 1 ≤ n
-not_empty n e = grind (arith, nat_tests)
+use Rattle.tapes.specs.Blocks.{is_block, ordered, outcome}
 
 module _ (slice tape : List ℕ) where
-  pub outcome_untouched : (length slice ≡ 0) ⊎ (128 < length slice) → outcome slice tape ≡ untouched slice tape
-  outcome_untouched (inl none) = cond-false (is_block (length slice)) _ _ (and_left (leb 1 (length slice)) (leb (length slice) 128) (lt-leb 1 (length slice) (omega arith)))
-  outcome_untouched (inr many) = cond-false (is_block (length slice)) _ _ (and_right (leb 1 (length slice)) (leb (length slice) 128) (lt-leb (length slice) 128 many))
-
   pub outcome_ordered : 1 ≤ length slice → length slice ≤ 128 → outcome slice tape ≡ ordered (length slice) (order (length slice) tape)
   outcome_ordered least most = cond-true (is_block (length slice)) _ _ (and_from (leb 1 (length slice)) (leb (length slice) 128) (le-leb 1 (length slice) least) (le-leb (length slice) 128 most))
 
@@ -33,18 +25,9 @@ module _ (m : ℕ) (held rest : List ℕ) where
   ordered_in_place (drawn o left') None answer holds left = let z : ◌≡◌ {A = ℕ} 0 1 = cc in absurd (omega arith)
   ordered_in_place (drawn o left') (Some _) answer holds left = cc
 
-  ordered_wiped : (drawing : Drawn (List ℕ)) → None ≡ (ordered m drawing).answer → held ≡ (ordered m drawing).slice → held ≡ replicate m 0
-  ordered_wiped short answer holds = holds
-  ordered_wiped (drawn o left') answer holds = let z : ◌≡◌ {A = ℕ} 0 1 = cc in absurd (omega arith)
-
 module _ (slice tape : List ℕ) (least : 1 ≤ length slice) (most : length slice ≤ 128) (held rest : List ℕ) where
   pub block_drawn : (r : Option (Unit {0})) → r ≡ (outcome slice tape).answer → held ≡ (outcome slice tape).slice → rest ≡ (outcome slice tape).waiting →
       DrawnInPlace (order (length slice) tape) r held rest
   block_drawn r answer holds left =
       let is = outcome_ordered slice tape least most in
       ordered_in_place (length slice) held rest (order (length slice) tape) r (rw is at answer) (rw is at holds) (rw is at left)
-
-  pub block_wiped : None ≡ (outcome slice tape).answer → held ≡ (outcome slice tape).slice → held ≡ replicate (length slice) 0
-  block_wiped answer holds =
-      let is = outcome_ordered slice tape least most in
-      ordered_wiped (length slice) held rest (order (length slice) tape) (rw is at answer) (rw is at holds)

@@ -1,14 +1,15 @@
 -- Lists of digits and permutations of the columns are in bijection: the clauses `permutation` and `bijection` of `draw_order`.
-use Rattle.std.proofs.Common.{◌≡◌, ℕ, zero, suc, ◌+◌, ◌<◌, ◌≤◌, cond, eqb, ltb, List, [], ◌∷◌, length, count_by, sym, refl, ap, ◌∙◌, subst, inl, inr, add-one, arith}
-use Rattle.std.specs.List.{AllByRecursion as All}
+use Rattle.std.proofs.Common.{◌≡◌, ℕ, zero, suc, ◌+◌, ◌<◌, ◌≤◌, cond, eqb, ltb, List, [], ◌∷◌, length, Some, Option, count_by, sym, refl, ap, ◌∙◌, subst, inl, inr, add-one, arith}
+use Rattle.std.specs.List.{All}
 use Rattle.std.proofs.lemmas.List.FromFn.{length-range_with_len, get_or-range_with_len}
-use Rattle.std.proofs.ByRecursion.{All-from_get_or}
+use Rattle.std.proofs.lemmas.List.Elements.{All-from_get_or}
 use Rattle.std.proofs.lemmas.Bool.{lt-ltb, le-ltb, cases_lt}
 use Rattle.std.proofs.lemmas.Bool.Decides.{nat_tests}
-use Rattle.tapes.specs.Drawing.{drawn}
-use Rattle.tapes.specs.Orders.{digits, columns, arranged, order}
+use Rattle.tapes.specs.Drawing.{drawn, DrawnInPlace}
+use Rattle.tapes.specs.Orders.{digits, columns, arranged, arranging, order}
 use Rattle.tapes.specs.Permutations.{Permutation, OneToOne}
 use Rattle.tapes.proofs.Drawing.{both_drawn}
+use Rattle.tapes.proofs.Outcomes.{arranging_columns}
 use Rattle.tapes.proofs.Counts.{count_by_counting_more}
 use Rattle.tapes.proofs.Removals.{count_by_cons, Distinct}
 use Rattle.tapes.proofs.Arrangements.{Arranged, arranged_by, arranged_apart, arranged_reached, Falling}
@@ -99,8 +100,11 @@ module _ (m : ℕ) where
   pub order_permutation : (tape o rest : List ℕ) → order m tape ≡ drawn o rest → Permutation m o
   order_permutation tape o rest e = permutation_of m o (order_arranged tape o rest e)
 
-  pub order_size : (tape o rest : List ℕ) → order m tape ≡ drawn o rest → length o ≡ m
-  order_size tape o rest e = (order_permutation tape o rest e).size
-
   pub order_within : (tape o rest : List ℕ) → order m tape ≡ drawn o rest → All (λ j. j < m) o
   order_within tape o rest e = (order_arranged tape o rest e).below m (columns_below m)
+
+-- Columns in rising order that were arranged in place.
+pub arranged_permutation : (m : ℕ) (start tape o rest : List ℕ) (r : Option (Unit {0})) → start ≡ columns m →
+    DrawnInPlace (arranging (length start) start tape) r o rest → r ≡ Some tt → Permutation m o
+arranged_permutation m start tape o rest r rising drew some =
+    order_permutation m tape o rest (sym (arranging_columns m start tape rising) ∙ (rw some at drew))

@@ -1,17 +1,18 @@
 -- The bytes that wait on the two tapes, as `next` and `waiting` find them.
-use Rattle.std.specs.Prelude.{◌≡◌, ℕ, zero, suc, ◌+◌, ◌-◌, ◌*◌, ◌%◌, ◌<◌, List, ◌∷◌, length, drop, slice_index, slice_index_or}
+use Rattle.std.specs.Prelude.{◌≡◌, ℕ, zero, suc, ◌+◌, ◌-◌, ◌*◌, ◌%◌, ◌<◌, List, ◌∷◌, ◌++◌, length, slice_index, Option, Some, None}
 use Rattle.std.proofs.Common.{sym, ◌∙◌, ap, arith, suc-mul, mod-eq_of_lt}
 use Rattle.std.proofs.Math.Nat.{mod-add-mod}
-use Rattle.std.specs.List.{AllByRecursion as All}
-use Rattle.std.proofs.lemmas.List.{drop_more, ext_get_or}
-use Rattle.std.proofs.lemmas.Nat.{mod_below}
+use Rattle.std.specs.List.{All}
+use Rattle.std.specs.Option.{option_to_list}
+use Rattle.std.proofs.lemmas.List.{ext_get_or}
+use Rattle.std.proofs.lemmas.List.Elements.{All-same, All-rest}
 use Rattle.std.proofs.lemmas.List.FromFn.{length-map-range_with_len, get_or-map-range_with_len}
-use Rattle.std.proofs.ByRecursion.{All-from_get_or}
 use Rattle.tapes.specs.Tapes.{arithmetic_run}
 
--- A read at i takes the first item that is left.
-pub drop_read : (xs : List ℕ) (i x : ℕ) → i < length xs → x ≡ slice_index_or xs i x → drop i xs ≡ x ∷ drop (i + 1) xs
-drop_read xs i x h e = drop_more xs i x h ∙ ap (λ y. y ∷ drop (i + 1) xs) (sym e)
+-- What is left of bytes where the first is taken, if there is one.
+pub below_rest : (r : Option ℕ) (xs ys : List ℕ) → xs ≡ option_to_list r ++ ys → All (λ b. b < 256) xs → All (λ b. b < 256) ys
+below_rest None xs ys e h = All-same (λ b. b < 256) ys xs (sym e) h
+below_rest (Some b) xs ys e h = All-rest (λ b. b < 256) b ys xs e h
 
 abbrev at : (b s k : ℕ) → ℕ
 at b s k = (b + k * s) % 256
@@ -21,12 +22,6 @@ run_length b s c = length-map-range_with_len (at b s) 0 c
 
 pub run_at : (b s c k : ℕ) → k < c → slice_index (arithmetic_run b s c) k ≡ at b s k
 run_at b s c k h = get_or-map-range_with_len (at b s) 0 c k k 0 h (omega arith)
-
-pub run_below : (b s c : ℕ) → All (λ x. x < 256) (arithmetic_run b s c)
-run_below b s c =
-    All-from_get_or (λ x. x < 256) (arithmetic_run b s c) 0 (λ i l.
-    let h : i < c = omega (arith, run_length b s c) in
-    omega (arith, run_at b s c i h, mod_below (b + i * s) 256 (omega arith)))
 
 -- A run is its first byte, and the run from the next byte on.
 pub run_next : (b s c : ℕ) → b < 256 → 0 < c → arithmetic_run b s c ≡ b ∷ arithmetic_run ((b + s) % 256) s (c - 1)

@@ -1,34 +1,18 @@
 -- Which bytes spell a digit, and how many: for `draw_digit` and its clause `fair`.
-use Rattle.std.proofs.Common.{◌≡◌, ℕ, zero, suc, ◌+◌, ◌-◌, ◌*◌, ◌/◌, ◌%◌, ◌<◌, ◌≤◌, Bool, true, false, cond, eqb, ltb, List, [], ◌∷◌, Some, None, count_by, sym, refl, ap, ◌∙◌, inl, inr, suc-mul, add-one, arith}
+use Rattle.std.proofs.Common.{◌≡◌, ℕ, zero, suc, ◌+◌, ◌*◌, ◌/◌, ◌%◌, ◌<◌, ◌≤◌, Bool, true, false, cond, eqb, ltb, List, [], ◌∷◌, Some, count_by, sym, refl, ap, ◌∙◌, suc-mul, add-one, arith}
 use Rattle.std.specs.List.{range_with_len}
-use Rattle.std.proofs.lemmas.Bool.{lt-ltb, le-ltb, cases_lt}
-use Rattle.std.proofs.lemmas.Nat.{mul-add-lt, mul-le, div_below, le-div, mod_below, div-add-mod', mod-mul-add, div-mul-add}
+use Rattle.std.proofs.lemmas.Bool.{lt-ltb, le-ltb}
+use Rattle.std.proofs.lemmas.Nat.{mod_below, div-add-mod', mod-mul-add, div-mul-add}
 use Rattle.std.proofs.lemmas.Bool.Decides.{nat_tests}
-use Rattle.tapes.specs.Drawing.{short, drawn}
+use Rattle.tapes.specs.Drawing.{drawn, value_of, rest_of}
 use Rattle.tapes.specs.Digits.{bound, digit, spells, Fair}
+use Rattle.tapes.proofs.Drawing.{from_answer}
 use Rattle.tapes.proofs.Counts.{count_by_counting_more}
 
 module _ (b : ℕ) (some : 0 < b) where
   -- The bound ends a whole number of rows.
   pub bound_rows : bound b ≡ 256 / b * b
   bound_rows = omega (arith, div-add-mod' 256 b)
-
-  -- A byte is below the bound if its row ends by 256, and not otherwise.
-  pub row_whole : (x : ℕ) → x - x % b + b ≤ 256 → x < bound b
-  row_whole x h =
-      let split = div-add-mod' x b in
-      let low = mod_below x b some in
-      let row : suc (x / b) ≤ 256 / b = le-div (suc (x / b)) 256 b some (omega (arith, suc-mul (x / b) b)) in
-      omega (arith, mul-add-lt (x / b) b (x % b) (256 / b) row low, bound_rows)
-
-  pub row_cut : (x : ℕ) → 256 < x - x % b + b → bound b ≤ x
-  row_cut x h = elim (cases_lt x (bound b)) [
-    | inl below ↦
-        let split = div-add-mod' x b in
-        let row : x / b < 256 / b = div_below x b (256 / b) some (omega (arith, bound_rows)) in
-        absurd (omega (arith, mul-le (suc (x / b)) b (256 / b) b row (omega arith), suc-mul (x / b) b, bound_rows, div-add-mod' 256 b))
-    | inr above ↦ above
-  ]
 
   module _ (d : ℕ) where
     -- How many of the first n bytes spell d.
@@ -91,15 +75,5 @@ digit_below b some (x ∷ t) d rest e = go (digit_below b some t d rest) (ltb x 
     go later true f = let is : x % b ≡ d = cc in omega (arith, mod_below x b some)
     go later false f = later f
 
--- The two ends of drawing a digit.
-module _ (b : ℕ) (t0 : List ℕ) where
-  pub digit_short : (t : List ℕ) → digit b t ≡ digit b t0 → t ≡ [] → digit b t0 ≡ short
-  digit_short t same e = sym same ∙ ap (digit b) e
-
-  pub digit_drawn : (x d : ℕ) (t rest : List ℕ) → digit b t ≡ digit b t0 → t ≡ x ∷ rest →
-      Some d ≡ cond (ltb x (bound b)) (Some (x % b)) None → digit b t0 ≡ drawn d rest
-  digit_drawn x d t rest same e spelled = sym same ∙ ap (digit b) e ∙ go (ltb x (bound b)) spelled
-    where
-      go : (kept : Bool) → Some d ≡ cond kept (Some (x % b)) None → cond kept (drawn (x % b) rest) (digit b rest) ≡ drawn d rest
-      go true f = let is : d ≡ x % b = cc in rw is
-      go false f = let z : ◌≡◌ {A = ℕ} 0 1 = cc in absurd (omega arith)
+pub drawn_below : (b d : ℕ) (t : List ℕ) → 0 < b → Some d ≡ value_of (digit b t) → d < b
+drawn_below b d t some e = digit_below b some t d (rest_of (digit b t)) (from_answer d _ (digit b t) e refl)

@@ -24,7 +24,7 @@ impl Base {
     pub fn new(value: u8) -> Option<Base>
         ensures answers { option_map (λ b. b.value) result ≡ (if is_base value then Some value else None) }
     {
-        if value < BASE_MIN || value > BASE_MAX {
+        if !(BASE_MIN..=BASE_MAX).contains(&value) {
             return None;
         }
         Some(Base { value })
@@ -69,6 +69,7 @@ pub fn draw_digit<T: Tape>(tape: &mut T, base: Base) -> Option<u8>
     ensures leaves { T.bytes tape.new ≡ rest_of (digit base.value (T.bytes tape.old)) }
     ensures fair { Fair base.value }
 {
+    // A loop: a tape is no iterator, and a chain would begin with a closure that takes from it.
     loop {
         let byte = tape.next()?;
         if let Some(digit) = spelled(byte, base) {

@@ -7,7 +7,7 @@ mod orders;
 mod practice;
 
 ghost use Rattle.std.specs.Prelude.{◌≡◌, ℕ, ◌<◌, List, [], ◌∷◌, length, MatchOption};
-ghost use Rattle.std.specs.List.{AllByRecursion};
+ghost use Rattle.std.specs.List.{All};
 
 pub use digits::{Base, draw_digit};
 pub use noise::NoiseTape;
@@ -27,7 +27,7 @@ pub trait Tape {
     fn waiting(&self) -> usize
         ensures counts { result ≡ length (bytes self.now) };
 
-    ghost below: { (t : Self) → AllByRecursion (λ b. b < 256) (bytes t) };
+    ghost below: { (t : Self) → All (λ b. b < 256) (bytes t) };
 }
 
 #[cfg(test)]

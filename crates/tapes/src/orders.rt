@@ -1,5 +1,5 @@
 // The column orders of blocks, drawn digit by digit.
-ghost use Rattle.std.specs.Prelude.{◌≡◌, ◌+◌, ◌<◌, ◌≤◌, ◌∷◌, ◌++◌, length, take, drop, if◌then◌else◌, Some, slice_index};
+ghost use Rattle.std.specs.Prelude.{◌≡◌, ◌<◌, ◌≤◌, ◌∷◌, length, if◌then◌else◌, Some, slice_index};
 ghost use Rattle.std.specs.List.{remove};
 ghost use Rattle.tapes.specs.Drawing.{DrawnInPlace};
 ghost use Rattle.tapes.specs.Orders.{columns, arranging};
@@ -8,17 +8,19 @@ ghost use Rattle.tapes.specs.Blocks.{outcome};
 
 use crate::digits::BASE_MAX;
 use crate::{Base, Tape, draw_digit};
+use std::mem;
 
 // The most columns of a block: its first digit has a base of so many.
 const COLUMNS_MAX: usize = BASE_MAX as usize;
 
 // Writes the columns 0, 1, 2 and so on, in rising order.
+#[tactic(auto, using(crate::proofs::Counts::counting_more, std::proofs::lemmas::List::take_more_set))]
 fn number_columns(order: &mut [u8])
     requires { length order.old ≤ 128 }
     ensures { order.new ≡ columns (length order.old) }
 {
-    for column in 0..order.len() {
-        order[column] = column as u8;
+    for (column, place) in order.iter_mut().enumerate() {
+        *place = column as u8;
     }
 }
 
@@ -36,33 +38,25 @@ fn bring_forward(remaining: &mut [u8], place: usize)
     ensures { remaining.new ≡ slice_index remaining.old place ∷ remove remaining.old place }
 {
     let mut carried = remaining[place];
-    for k in 0..remaining.len() {
-        let here = remaining[k];
-        remaining[k] = select(k <= place, carried, here);
-        carried = here;
+    for (k, column) in remaining.iter_mut().enumerate() {
+        let moved = select(k <= place, carried, *column);
+        carried = mem::replace(column, moved);
     }
-}
-
-// The first `taken` columns stay; of those that remain, the one at a place comes next.
-fn take_column(order: &mut [u8], taken: usize, place: usize)
-    requires { taken + place < length order.old }
-    ensures { order.new ≡ take taken order.old ++ (slice_index (drop taken order.old) place ∷ remove (drop taken order.old) place) }
-{
-    bring_forward(&mut order[taken..], place);
 }
 
 // Arranges the columns by digits drawn from the tape.
-fn arrange<T: Tape>(tape: &mut T, order: &mut [u8]) -> Option<()>
-    requires least { 1 ≤ length order.old }
-    requires most { length order.old ≤ 128 }
-    ensures { DrawnInPlace (arranging (length order.old) order.old (T.bytes tape.old)) result order.new (T.bytes tape.new) }
+#[tactic(auto, using(crate::proofs::Steps::arranging_short, crate::proofs::Spellings::drawn_below))]
+fn arrange<T: Tape>(tape: &mut T, remaining: &mut [u8]) -> Option<()>
+    requires { length remaining.old ≤ 128 }
+    ensures { DrawnInPlace (arranging (length remaining.old) remaining.old (T.bytes tape.old)) result remaining.new (T.bytes tape.new) }
 {
-    for taken in 0..order.len() - 1 {
-        let base = Base::known((order.len() - taken) as u8);
-        let place = draw_digit(tape, base)?;
-        take_column(order, taken, place as usize);
+    if remaining.len() <= 1 {
+        return Some(());
     }
-    Some(())
+    let base = Base::known(remaining.len() as u8);
+    let place = draw_digit(tape, base)?;
+    bring_forward(remaining, place as usize);
+    arrange(tape, &mut remaining[1..])
 }
 
 // Draws the order of a block into a slice of one byte for each of its columns, 1 to 128.
@@ -76,13 +70,13 @@ pub fn draw_order<T: Tape>(tape: &mut T, order: &mut [u8]) -> Option<()>
     ensures permutation { result ≡ Some tt → Permutation (length order.old) order.new }
     ensures bijection { OneToOne (length order.old) }
 {
-    if order.is_empty() || order.len() > COLUMNS_MAX {
+    if !(1..=COLUMNS_MAX).contains(&order.len()) {
         return None;
     }
     number_columns(order);
-    if arrange(tape, order).is_none() {
+    let drawn = arrange(tape, order);
+    if drawn.is_none() {
         order.fill(0);
-        return None;
     }
-    Some(())
+    drawn
 }

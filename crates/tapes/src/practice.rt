@@ -1,7 +1,7 @@
 // The practice tape: an arithmetic run of bytes, for trials that anybody can repeat.
 ghost use Rattle.std.specs.Prelude.{◌≡◌, ◌<◌};
 ghost use Rattle.std.proofs.Common.{rules};
-ghost use Rattle.std.proofs.ByRecursion.{All-map, All-from_get_or};
+ghost use Rattle.std.proofs.lemmas.List.Elements.{All-map};
 ghost use Rattle.std.proofs.lemmas.Nat.{mod_below};
 ghost use Rattle.tapes.specs.Tapes.{arithmetic_run};
 
@@ -18,7 +18,7 @@ pub struct PracticeTape {
 impl PracticeTape {
     // A tape on which `count` bytes wait: `byte` first, then each by `step` more, mod 256.
     pub fn new(byte: u8, step: u8, count: u32) -> Self
-        ensures waits { arithmetic_run result.byte result.step result.count ≡ arithmetic_run byte step count }
+        ensures waits { ⟦<PracticeTape as Tape>⟧.bytes result ≡ arithmetic_run byte step count }
     {
         PracticeTape { byte, step, count }
     }
@@ -27,16 +27,13 @@ impl PracticeTape {
 impl Tape for PracticeTape {
     ghost bytes = { λ t. arithmetic_run t.byte t.step t.count };
 
-    ghost below = { λ t. All-map (λ b. b < 256) _ _ (All-from_get_or _ _ 0 (λ k _. mod_below _ 256 (Prim.search rules))) };
+    ghost below = { λ t. All-map (λ b. b < 256) _ _ (λ k _ _. mod_below _ 256 (Prim.search rules)) };
 
     #[tactic(auto, using(crate::proofs::Runs::run_next))]
     fn next(&mut self) -> Option<u8> {
-        if self.count == 0 {
-            return None;
-        }
+        self.count = self.count.checked_sub(1)?;
         let byte = self.byte;
         self.byte = byte.wrapping_add(self.step);
-        self.count -= 1;
         Some(byte)
     }
 

@@ -1,9 +1,0 @@
-use Rattle.std.proofs.Common.{[], ◌∷◌, ◌++◌, sym, ap, ◌∙◌, arith}
-use Rattle.std.proofs.lemmas.List.{take_more_set}
-use Rattle.tapes.proofs.Counts.{counting_more}
-use Rattle.tapes.proofs.orders.number_columns.Goals as goal
-
-pub loop-column-preserved : goal.loop-column-preserved
-loop-column-preserved c =
-    let k = c.loop-column.column in
-    take_more_set c.loop-column.order k k (omega arith) ∙ ap (λ l. l ++ k ∷ []) c.loop-column.invariant ∙ sym (counting_more k)
