@@ -4,7 +4,6 @@ use Rattle.std.proofs.Common.{◌≡◌, ℕ, ◌+◌, ◌-◌, ◌*◌, ◌<◌
 use lib.Seq.{drop-append_seam}
 use Rattle.std.proofs.lemmas.List.{drop-append-le, drop_all, length-take-le}
 use Rattle.std.proofs.lemmas.Bool.{cond-true, cond-false, cases_Bool, lt-ltb, le-ltb, ltb-true, ltb-false}
-use Rattle.pictures.specs.Refusals.{number_of}
 use Rattle.pictures.specs.Rows.{row_bytes}
 use Rattle.pictures.specs.Reading.{Read, got, fault, ◌⟫◌, is_white_byte, is_digit_byte, magic, blank, gap, digits, number, white, all_rows, opened, FaultAt}
 use Rattle.pictures.specs.FirstFault.{FirstFault, Whole}
@@ -12,16 +11,13 @@ use Rattle.pictures.specs.declared.refusals.PictureRefusal.{PictureRefusal}
 use Rattle.pictures.specs.declared.refusals.PictureRefusal.TheVariants.{WrongMagic, WrongByte, NumberOutside, EndsEarly, BytesAfterRows, NoSuchRow}
 
 -- ---- "too early" and the other refusals
-other : (why : PictureRefusal) → (number_of why ≡ 4 → ⊥) → why ≡ EndsEarly → ⊥
-other why never e = never (ap number_of e)
-
 too_early_or_not : (why : PictureRefusal) → (why ≡ EndsEarly) ⊎ (why ≡ EndsEarly → ⊥)
-too_early_or_not WrongMagic = inr (other WrongMagic (λ e. omega arith))
-too_early_or_not WrongByte = inr (other WrongByte (λ e. omega arith))
-too_early_or_not NumberOutside = inr (other NumberOutside (λ e. omega arith))
+too_early_or_not WrongMagic = inr (λ e. cc)
+too_early_or_not WrongByte = inr (λ e. cc)
+too_early_or_not NumberOutside = inr (λ e. cc)
 too_early_or_not EndsEarly = inl refl
-too_early_or_not BytesAfterRows = inr (other BytesAfterRows (λ e. omega arith))
-too_early_or_not NoSuchRow = inr (other NoSuchRow (λ e. omega arith))
+too_early_or_not BytesAfterRows = inr (λ e. cc)
+too_early_or_not NoSuchRow = inr (λ e. cc)
 
 -- ---- more bytes after the file
 -- A part that was read is read still, and a fault other than "too early" stays.
@@ -164,15 +160,15 @@ within_then s (fault why t) next p n = p
 ended : (s : List ℕ) → Placed s EndsEarly []
 ended s = record { suffix = nil_suffix s; at_end = λ _. refl; at_byte = λ never. absurd (never refl) }
 
-here : (why : PictureRefusal) (s : List ℕ) (b : ℕ) (t : List ℕ) → (number_of why ≡ 4 → ⊥) → Suffix (b ∷ t) s → Placed s why (b ∷ t)
-here why s b t never p = record { suffix = p; at_end = λ e. absurd (other why never e); at_byte = λ _. omega arith }
+here : (why : PictureRefusal) (s : List ℕ) (b : ℕ) (t : List ℕ) → (why ≡ EndsEarly → ⊥) → Suffix (b ∷ t) s → Placed s why (b ∷ t)
+here why s b t never p = record { suffix = p; at_end = λ e. absurd (never e); at_byte = λ _. omega arith }
 
 magic_within : (s : List ℕ) → Within s (magic s)
 magic_within [] = ended _
 magic_within (a ∷ []) = ended _
 magic_within (a ∷ b ∷ s) =
     within_cond _ (eqb a 80 && eqb b 52) (got tt s) (fault WrongMagic (a ∷ b ∷ s)) (cons_suffix a (cons_suffix b (whole_suffix s)))
-    (here WrongMagic _ a (b ∷ s) (λ e. omega arith) (whole_suffix _))
+    (here WrongMagic _ a (b ∷ s) (λ e. cc) (whole_suffix _))
 
 blank_within : (s : List ℕ) (inside : Bool) → Within s (blank inside s)
 blank_within [] inside = ended _
@@ -185,25 +181,25 @@ gap_within : (s : List ℕ) → Within s (gap s)
 gap_within [] = ended _
 gap_within (b ∷ s) =
     within_cond _ (is_white_byte b || eqb b 35) (blank false (b ∷ s)) (fault WrongByte (b ∷ s)) (blank_within (b ∷ s) false)
-    (here WrongByte _ b s (λ e. omega arith) (whole_suffix _))
+    (here WrongByte _ b s (λ e. cc) (whole_suffix _))
 
 digits_within : (a : ℕ) (whole : List ℕ) (n : ℕ) (s : List ℕ) → Suffix s (a ∷ whole) → Within (a ∷ whole) (digits (a ∷ whole) n s)
 digits_within a whole n [] p = ended _
 digits_within a whole n (b ∷ s) p =
     within_cond _ (is_digit_byte b) (digits (a ∷ whole) (n * 10 + (b - 48)) s) (cond (leb 1 n && leb n 4096) (got n (b ∷ s)) (fault NumberOutside (a ∷ whole)))
     (digits_within a whole (n * 10 + (b - 48)) s (suffix_trans (cons_suffix b (whole_suffix s)) p))
-    (within_cond _ (leb 1 n && leb n 4096) (got n (b ∷ s)) (fault NumberOutside (a ∷ whole)) p (here NumberOutside _ a whole (λ e. omega arith) (whole_suffix _)))
+    (within_cond _ (leb 1 n && leb n 4096) (got n (b ∷ s)) (fault NumberOutside (a ∷ whole)) p (here NumberOutside _ a whole (λ e. cc) (whole_suffix _)))
 
 number_within : (s : List ℕ) → Within s (number s)
 number_within [] = ended _
 number_within (b ∷ s) =
     within_cond _ (is_digit_byte b) (digits (b ∷ s) 0 (b ∷ s)) (fault WrongByte (b ∷ s)) (digits_within b s 0 (b ∷ s) (whole_suffix _))
-    (here WrongByte _ b s (λ e. omega arith) (whole_suffix _))
+    (here WrongByte _ b s (λ e. cc) (whole_suffix _))
 
 white_within : (s : List ℕ) → Within s (white s)
 white_within [] = ended _
 white_within (b ∷ s) =
-    within_cond _ (is_white_byte b) (got tt s) (fault WrongByte (b ∷ s)) (cons_suffix b (whole_suffix s)) (here WrongByte _ b s (λ e. omega arith) (whole_suffix _))
+    within_cond _ (is_white_byte b) (got tt s) (fault WrongByte (b ∷ s)) (cons_suffix b (whole_suffix s)) (here WrongByte _ b s (λ e. cc) (whole_suffix _))
 
 rows_within : (w h : ℕ) (s : List ℕ) → Within s (all_rows w h s)
 rows_within w h s =
@@ -211,7 +207,7 @@ rows_within w h s =
     within_cond _ (ltb (length s) size) (fault EndsEarly []) _ (ended _)
     (⊎_elim
     (λ q. subst (Within s) (sym (cond-true (ltb size (length s)) _ _ q))
-    (record { suffix = drop_suffix size s; at_end = λ e. absurd (other BytesAfterRows (λ f. omega arith) e); at_byte = λ _. omega (arith, length-drop size s, ltb-true size (length s) q) }))
+    (record { suffix = drop_suffix size s; at_end = λ e. absurd (let f : ◌≡◌ BytesAfterRows EndsEarly = e in cc); at_byte = λ _. omega (arith, length-drop size s, ltb-true size (length s) q) }))
     (λ q. subst (Within s) (sym (cond-false (ltb size (length s)) _ _ q)) (whole_suffix s))
     (cases_Bool (ltb size (length s))))
 
@@ -258,11 +254,11 @@ cut s back (fault other-why u) r' why t p w e lt =
     (too_early_or_not other-why)
 
 cut_opened : {A : Type 0} (s back : List ℕ) (r r' : Read A) (x : A) (t : List ℕ) → Past back r r' → Within s r → r' ≡ got x t → 0 < length back → r ≡ fault EndsEarly []
-cut_opened s back (got y u) r' x t p w e lt = let f = sym (p lt) ∙ e in let z : ◌≡◌ {A = ℕ} 0 1 = cc in absurd (omega arith)
+cut_opened s back (got y u) r' x t p w e lt = let f = sym (p lt) ∙ e in cc
 cut_opened s back (fault why u) r' x t p w e lt =
     ⊎_elim
     (λ is. (λ i. fault (is i) (w.at_end is i)))
-    (λ never. let f = sym (p never) ∙ e in let z : ◌≡◌ {A = ℕ} 0 1 = cc in absurd (omega arith))
+    (λ never. let f = sym (p never) ∙ e in cc)
     (too_early_or_not why)
 
 -- a front of n bytes that ends too early does so at n

@@ -1,14 +1,15 @@
 -- A file is opened exactly where the grammar has it, with the w, h and rows of the grammar. Serves the clause `grammar` of `open`.
 -- Assumes nothing.
 use Rattle.std.proofs.Common.{◌≡◌, ℕ, ◌+◌, ◌-◌, ◌*◌, ◌<◌, ◌≤◌, Bool, true, false, ◌&&◌, ◌||◌, eqb, ltb, leb, List, [], ◌∷◌, ◌++◌, length, sym, refl, ap, ◌∙◌, subst, inl, inr, ⊎_elim, append_assoc, arith, length-append}
-use Rattle.std.specs.List.{AllByRecursion}
+use Rattle.std.specs.List.{All}
+use Rattle.std.proofs.lemmas.List.Elements.{All-nil, All-cons, All-head, All-tail}
 use Rattle.std.proofs.lemmas.Bool.{cond-true, cond-false, cases_Bool, or_cases, or_left, or_right, and_parts, and_from, eqb-true, eqb-false, eq-eqb, ne_eqb, le-leb, leb-true, le-ltb, ltb-false}
 use Rattle.std.proofs.lemmas.Bool.Decides.{nat_tests}
 use Rattle.pictures.specs.Reading.{Read, got, fault, ◌⟫◌, is_white_byte, is_digit_byte, magic, blank, gap, digits, number, white, all_rows, opened}
 use Rattle.pictures.proofs.Steps.{go}
 use Rattle.pictures.specs.Rows.{row_bytes, RowsFit}
 use Rattle.pictures.specs.declared.refusals.PictureRefusal.{PictureRefusal}
-use Rattle.pictures.specs.Format.{White, Blank, nothing, white as whiteᵇ, comment, Gap, value_after, Digits, Number, PictureFile, Only, NoPicture}
+use Rattle.pictures.specs.Format.{White, Blank, nothing, white as whiteᵇ, comment, Gap, value_after, Digit, Digits, Number, PictureFile, Only, NoPicture}
 
 -- tests and facts
 white_from : (b : ℕ) → is_white_byte b ≡ true → White b
@@ -20,14 +21,14 @@ white_to b (inr (inl e)) = ap is_white_byte e
 white_to b (inr (inr (inl e))) = ap is_white_byte e
 white_to b (inr (inr (inr e))) = ap is_white_byte e
 
-digit_from : (b : ℕ) → is_digit_byte b ≡ true → (48 ≤ b) × (b ≤ 57)
+digit_from : (b : ℕ) → is_digit_byte b ≡ true → Digit b
 digit_from b e = let p = and_parts _ _ e in (leb-true 48 b p.0, leb-true b 57 p.1)
 
-digit_to : (b : ℕ) → (48 ≤ b) × (b ≤ 57) → is_digit_byte b ≡ true
+digit_to : (b : ℕ) → Digit b → is_digit_byte b ≡ true
 digit_to b p = and_from _ _ (le-leb 48 b p.0) (le-leb b 57 p.1)
 
 not_got : {A : Type 0} {why : PictureRefusal} {s : List ℕ} {x : A} {t : List ℕ} → fault why s ≡ got x t → ⊥
-not_got e = let z : ◌≡◌ {A = ℕ} 0 1 = cc in omega arith
+not_got e = cc
 
 -- ---- what was blank is blank
 record Skips (s t : List ℕ) : Type 0 where
@@ -35,10 +36,14 @@ record Skips (s t : List ℕ) : Type 0 where
   is : Blank front
   bytes : s ≡ front ++ t
 
+-- no byte that ends a comment
+abbrev NoEnd : ℕ → Type 0
+NoEnd b = b ≡ 10 → ⊥
+
 record Closes (s t : List ℕ) : Type 0 where
   inside : List ℕ
   front : List ℕ
-  free : AllByRecursion (λ b. b ≡ 10 → ⊥) inside
+  free : All NoEnd inside
   is : Blank front
   bytes : s ≡ inside ++ (10 ∷ (front ++ t))
 
@@ -60,9 +65,9 @@ mutual
   after_close (b ∷ s) n t e =
       ⊎_elim
       (λ p. let r = after_skip s n t (sym (cond-true _ _ _ p) ∙ e) in
-      record { inside = []; front = r.front; free = tt; is = r.is; bytes = λ i. eqb-true b 10 p i ∷ r.bytes i })
+      record { inside = []; front = r.front; free = All-nil NoEnd; is = r.is; bytes = λ i. eqb-true b 10 p i ∷ r.bytes i })
       (λ p. let r = after_close s n t (sym (cond-false _ _ _ p) ∙ e) in
-      record { inside = b ∷ r.inside; front = r.front; free = (eqb-false b 10 p, r.free); is = r.is; bytes = ap (λ l. b ∷ l) r.bytes })
+      record { inside = b ∷ r.inside; front = r.front; free = All-cons NoEnd b r.inside (eqb-false b 10 p) r.free; is = r.is; bytes = ap (λ l. b ∷ l) r.bytes })
       (cases_Bool (eqb b 10))
 
 -- ---- a gap is not empty: skipping from a byte that begins one goes past that byte
@@ -123,14 +128,14 @@ after_digits whole n (b ∷ s) m t e =
     ⊎_elim
     (λ p.
     let r = after_digits whole (n * 10 + (b - 48)) s m t (sym (cond-true _ _ _ p) ∙ e) in
-    record { front = b ∷ r.front; is = (digit_from b p, r.is); value = r.value; least = r.least; most = r.most; bytes = ap (λ l. b ∷ l) r.bytes })
+    record { front = b ∷ r.front; is = All-cons Digit b r.front (digit_from b p) r.is; value = r.value; least = r.least; most = r.most; bytes = ap (λ l. b ∷ l) r.bytes })
     (λ p. ⊎_elim
     (λ q.
     let f = sym (cond-false _ _ _ p ∙ cond-true _ _ _ q) ∙ e in
     let both = and_parts (leb 1 n) (leb n 4096) q in
     let same : n ≡ m = cc in
     let rest : b ∷ s ≡ t = cc in
-    record { front = []; is = tt; value = same; least = omega (arith, leb-true 1 n both.0); most = omega (arith, leb-true n 4096 both.1); bytes = rest })
+    record { front = []; is = All-nil Digit; value = same; least = omega (arith, leb-true 1 n both.0); most = omega (arith, leb-true n 4096 both.1); bytes = rest })
     (λ q. absurd (not_got (sym (cond-false _ _ _ p ∙ cond-false _ _ _ q) ∙ e)))
     (cases_Bool (leb 1 n && leb n 4096)))
     (cases_Bool (is_digit_byte b))
@@ -142,7 +147,7 @@ after_number (b ∷ s) m t e =
     (λ p.
     let f = sym (cond-true _ _ _ p) ∙ e in
     let r = after_digits (b ∷ s) (0 * 10 + (b - 48)) s m t (sym (cond-true _ _ _ p) ∙ f) in
-    (b ∷ r.front, record { written = omega arith; digits = (digit_from b p, r.is); value = r.value; least = r.least; most = r.most }, ap (λ l. b ∷ l) r.bytes))
+    (b ∷ r.front, record { written = omega arith; digits = All-cons Digit b r.front (digit_from b p) r.is; value = r.value; least = r.least; most = r.most }, ap (λ l. b ∷ l) r.bytes))
     (λ p. absurd (not_got (sym (cond-false _ _ _ p) ∙ e)))
     (cases_Bool (is_digit_byte b))
 
@@ -237,9 +242,9 @@ stop_here : (t : List ℕ) → Stops t → blank false t ≡ got tt t
 stop_here [] h = absurd h
 stop_here (b ∷ t) h = cond-false _ _ _ h.0 ∙ cond-false _ _ _ h.1
 
-through_comment : (c s : List ℕ) → AllByRecursion (λ b. b ≡ 10 → ⊥) c → blank true (c ++ (10 ∷ s)) ≡ blank false s
+through_comment : (c s : List ℕ) → All NoEnd c → blank true (c ++ (10 ∷ s)) ≡ blank false s
 through_comment [] s h = refl
-through_comment (b ∷ c) s h = cond-false _ _ _ (ne_eqb b 10 h.0) ∙ through_comment c s h.1
+through_comment (b ∷ c) s h = cond-false _ _ _ (ne_eqb b 10 (All-head NoEnd b c h)) ∙ through_comment c s (All-tail NoEnd b c h)
 
 through_blank : {g : List ℕ} → Blank g → (t : List ℕ) → Stops t → blank false (g ++ t) ≡ got tt t
 through_blank nothing t h = stop_here t h
@@ -258,18 +263,18 @@ through_gap (b ∷ g) t h st = cond-true _ _ _ (begins h.0 h.1 b g refl) ∙ thr
 through_digits : (whole : List ℕ) (n : ℕ) (d t : List ℕ) → Digits d → Ends t → 1 ≤ value_after n d → value_after n d ≤ 4096 → digits whole n (d ++ t) ≡ got (value_after n d) t
 through_digits whole n [] [] ds e l m = absurd e
 through_digits whole n [] (b ∷ t) ds e l m = cond-false _ _ _ e ∙ cond-true _ _ _ (and_from _ _ (le-leb 1 n l) (le-leb n 4096 m))
-through_digits whole n (b ∷ d) t ds e l m = cond-true _ _ _ (digit_to b ds.0) ∙ through_digits whole (n * 10 + (b - 48)) d t ds.1 e l m
+through_digits whole n (b ∷ d) t ds e l m = cond-true _ _ _ (digit_to b (All-head Digit b d ds)) ∙ through_digits whole (n * 10 + (b - 48)) d t (All-tail Digit b d ds) e l m
 
 through_number : (d : List ℕ) (n : ℕ) (t : List ℕ) → Number d n → Ends t → number (d ++ t) ≡ got n t
 through_number [] n t h e = absurd (omega (arith, h.written))
 through_number (b ∷ d) n t h e =
     let v = h.value in
-    cond-true _ _ _ (digit_to b h.digits.0) ∙ through_digits (b ∷ (d ++ t)) 0 (b ∷ d) t h.digits e (omega (arith, h.least)) (omega (arith, h.most)) ∙ ap (λ k. got k t) v
+    cond-true _ _ _ (digit_to b (All-head Digit b d h.digits)) ∙ through_digits (b ∷ (d ++ t)) 0 (b ∷ d) t h.digits e (omega (arith, h.least)) (omega (arith, h.most)) ∙ ap (λ k. got k t) v
 
 -- what follows a part does not continue it
 digit_stops : (d t : List ℕ) (n : ℕ) → Number d n → Stops (d ++ t)
 digit_stops [] t n h = absurd (omega (arith, h.written))
-digit_stops (b ∷ d) t n h = let in-range = h.digits.0 in (grind (arith, nat_tests), grind (arith, nat_tests))
+digit_stops (b ∷ d) t n h = let in-range : Digit b = All-head Digit b d h.digits in (grind (arith, nat_tests), grind (arith, nat_tests))
 
 white_ends : (b : ℕ) → White b → is_digit_byte b ≡ false
 white_ends b (inl e) = ap is_digit_byte e

@@ -1,56 +1,39 @@
--- What each part of a file reads as, byte by byte: the steps of the readers' loops. Serves the contracts of src/parts.rt, and by them
--- that of `open`. Assumes nothing.
-use Rattle.std.proofs.Common.{◌≡◌, ℕ, ◌+◌, ◌-◌, ◌*◌, ◌<◌, ◌≤◌, min, Bool, true, false, cond, not, ◌&&◌, eqb, leb, List, [], ◌∷◌, length, get_or, drop, sym, refl, ap, ◌∙◌, subst, ⊎_elim, arith}
-use Rattle.std.proofs.lemmas.List.{drop_more, drop_all}
-use Rattle.std.proofs.lemmas.Bool.{cond-true, cond-false, and_from, and_right, lt-leb, lt-ltb, le-ltb, cases_lt, eq-eqb}
-use Rattle.pictures.specs.Reading.{Read, got, fault, ◌⟫◌, magic, is_white_byte, is_digit_byte, blank, digits, white, all_rows}
-use Rattle.pictures.specs.Rows.{row_bytes}
-use Rattle.pictures.specs.Parts.{Stopped}
-use Rattle.pictures.specs.declared.refusals.PictureRefusal.{PictureRefusal}
-use Rattle.pictures.specs.declared.refusals.PictureRefusal.TheVariants.{NumberOutside, EndsEarly, BytesAfterRows}
-
--- what holds of every list that begins with this byte holds of the bytes from its place on
-at_byte : (P : List ℕ → Type 0) (s : List ℕ) (at : ℕ) → at < length s → P (get_or s at 0 ∷ drop (at + 1) s) → P (drop at s)
-at_byte P s at h p = subst P (sym (drop_more s at 0 h)) p
-
--- a part that reads the same stops at the same place
-pub stopped_by : {A : Type 0} {part part' : Read A} {why : PictureRefusal} {left : ℕ} → part ≡ part' → Stopped part why left → Stopped part' why left
-stopped_by {why = why} {left = left} e p = subst (λ r. Stopped r why left) e p
-
--- a stop before the bytes that the part is refused at
-pub stopped_at : {A : Type 0} (part : Read A) (why : PictureRefusal) (rest : List ℕ) (why' : PictureRefusal) (left : ℕ) → part ≡ fault why rest → why' ≡ why → left ≡ length rest → Stopped part why' left
-stopped_at part why rest why' left e f g = record { rest = rest; is = e ∙ ap (λ k. fault k rest) (sym f); count = g }
+-- What each part of a file reads as: a comment up to its end, and a number by its digits. Serves the contracts of src/parts.rt, and by
+-- them that of `open`. Assumes nothing.
+use Rattle.std.proofs.Common.{◌≡◌, ℕ, ◌+◌, ◌-◌, ◌*◌, ◌<◌, Bool, true, false, cond, not, ◌&&◌, eqb, leb, List, [], ◌∷◌, length, get_or, take, drop, fold, Some, None, sym, refl, ap, ◌∙◌, subst, ⊎_elim, arith, zero, suc, add-one}
+use Rattle.std.specs.List.{position, position_from}
+use Rattle.std.proofs.lemmas.Bool.{cond-true, cond-false, cases_Bool, and_right, lt-leb, cases_lt, not-true, not-false}
+use Rattle.std.proofs.lemmas.List.Quantifiers.{position-Some}
+use Rattle.std.proofs.lemmas.Iterator.Adapters.{position_from-zero}
+use Rattle.pictures.specs.Reading.{Read, got, fault, ◌⟫◌, is_digit_byte, blank, digits, more_digit, number}
+use Rattle.pictures.specs.declared.refusals.PictureRefusal.TheVariants.{NumberOutside, EndsEarly}
 
 -- from one part to the next
 pub go : {A B : Type 0} {r : Read A} {x : A} {t : List ℕ} (next : A → List ℕ → Read B) → r ≡ got x t → (r ⟫ next) ≡ next x t
 go next e = ap (λ p. p ⟫ next) e
 
--- ---- the bytes 80 and 52
-pub magic_goes : (s : List ℕ) → 2 ≤ length s → get_or s 0 0 ≡ 80 → get_or s 1 0 ≡ 52 → magic s ≡ got tt (drop 2 s)
-magic_goes [] h a b = absurd (omega arith)
-magic_goes (x ∷ []) h a b = absurd (omega arith)
-magic_goes (x ∷ y ∷ s) h a b = cond-true _ _ _ (and_from _ _ (eq-eqb x 80 a) (eq-eqb y 52 b))
+-- ---- a comment, which goes on through the next byte 10
+abbrev ends_line : ℕ → Bool
+ends_line b = eqb b 10
 
--- ---- a gap
-module _ (s : List ℕ) (at : ℕ) where
-  pub blank_ends : (within : Bool) → length s ≤ at → Stopped (blank within (drop at s)) EndsEarly 0
-  blank_ends within h = record { rest = []; is = ap (blank within) (drop_all at s h); count = refl }
+open_from : (s : List ℕ) (i : ℕ) → position_from ends_line i s ≡ None → blank true s ≡ fault EndsEarly []
+open_from [] i e = refl
+open_from (b ∷ s) i e =
+    ⊎_elim
+    (λ p. absurd (let f : ◌≡◌ (Some i) None = sym (cond-true _ _ _ p) ∙ e in cc))
+    (λ p. cond-false _ _ _ p ∙ open_from s (i + 1) (sym (cond-false _ _ _ p) ∙ e))
+    (cases_Bool (eqb b 10))
 
-  pub blank_white : at < length s → is_white_byte (get_or s at 0) ≡ true → blank false (drop (at + 1) s) ≡ blank false (drop at s)
-  blank_white h w = at_byte (λ l. blank false (drop (at + 1) s) ≡ blank false l) s at h (sym (cond-true _ _ _ w))
+pub comment_open : (s : List ℕ) → position (λ b. eqb b 10) s ≡ None → blank true s ≡ fault EndsEarly []
+comment_open s e = open_from s 0 (sym (position_from-zero ends_line s) ∙ e)
 
-  pub blank_hash : at < length s → is_white_byte (get_or s at 0) ≡ false → eqb (get_or s at 0) 35 ≡ true → blank true (drop (at + 1) s) ≡ blank false (drop at s)
-  blank_hash h w c = at_byte (λ l. blank true (drop (at + 1) s) ≡ blank false l) s at h (sym (cond-false _ _ _ w ∙ cond-true _ _ _ c))
+closed_at : (k : ℕ) (s : List ℕ) → k < length s → eqb (get_or s k 0) 10 ≡ true → ((j : ℕ) → j < k → eqb (get_or s j 0) 10 ≡ false) → blank true s ≡ blank false (drop (suc k) s)
+closed_at k [] lt at before = absurd (omega arith)
+closed_at zero (b ∷ s) lt at before = cond-true _ _ _ at
+closed_at (suc k) (b ∷ s) lt at before = cond-false _ _ _ (before 0 (omega arith)) ∙ closed_at k s (omega arith) at (λ j h. before (suc j) (omega arith))
 
-  pub blank_stops : at < length s → is_white_byte (get_or s at 0) ≡ false → eqb (get_or s at 0) 35 ≡ false → blank false (drop at s) ≡ got tt (drop at s)
-  blank_stops h w c = at_byte (λ l. blank false l ≡ got tt l) s at h (cond-false _ _ _ w ∙ cond-false _ _ _ c)
-
-  pub blank_within : at < length s → blank (not (eqb (get_or s at 0) 10)) (drop (at + 1) s) ≡ blank true (drop at s)
-  blank_within h = at_byte (λ l. blank (not (eqb (get_or s at 0) 10)) (drop (at + 1) s) ≡ blank true l) s at h (closes (eqb (get_or s at 0) 10) (drop (at + 1) s))
-    where
-      closes : (t : Bool) (l : List ℕ) → blank (not t) l ≡ cond t (blank false l) (blank true l)
-      closes true l = refl
-      closes false l = refl
+pub comment_closed : (s : List ℕ) (k : ℕ) → position (λ b. eqb b 10) s ≡ Some k → blank true s ≡ blank false (drop (k + 1) s)
+comment_closed s k e = let p = position-Some ends_line s k 0 e in closed_at k s p.0 p.1 p.2 ∙ ap (λ n. blank false (drop n s)) (sym (add-one k))
 
 -- ---- a number
 -- past 4096 the number itself does not matter
@@ -62,29 +45,41 @@ over whole m n (b ∷ s) g h =
     (λ i. cond (is_digit_byte b) (both i) (cond (outside m g i) (got m (b ∷ s)) (fault NumberOutside whole)))
     ∙ sym (λ i. cond (is_digit_byte b) (digits whole (n * 10 + (b - 48)) s) (cond (outside n h i) (got n (b ∷ s)) (fault NumberOutside whole)))
 
-saturates : (whole : List ℕ) (n : ℕ) (s : List ℕ) → digits whole (min n 4097) s ≡ digits whole n s
-saturates whole n s = ⊎_elim (λ h. over whole (min n 4097) n s (omega arith) h) (λ h. let e : min n 4097 ≡ n = omega arith in ap (λ k. digits whole k s) e) (cases_lt 4096 n)
+step : (whole s : List ℕ) (n b : ℕ) → digits whole (n * 10 + (b - 48)) s ≡ digits whole (more_digit n b) s
+step whole s n b =
+    ⊎_elim
+    (λ h. over whole (n * 10 + (b - 48)) (more_digit n b) s h (omega arith))
+    (λ h. let e : n * 10 + (b - 48) ≡ more_digit n b = omega arith in ap (λ k. digits whole k s) e)
+    (cases_lt 4096 (n * 10 + (b - 48)))
 
-module _ (s whole : List ℕ) (n at : ℕ) where
-  pub digits_end : length s ≤ at → Stopped (digits whole n (drop at s)) EndsEarly 0
-  digits_end h = record { rest = []; is = ap (digits whole n) (drop_all at s h); count = refl }
+abbrev no_digit : ℕ → Bool
+no_digit b = not (is_digit_byte b)
 
-  pub digits_more : at < length s → is_digit_byte (get_or s at 0) ≡ true → digits whole (min (n * 10 + (get_or s at 0 - 48)) 4097) (drop (at + 1) s) ≡ digits whole n (drop at s)
-  digits_more h w =
-      saturates whole (n * 10 + (get_or s at 0 - 48)) (drop (at + 1) s)
-      ∙ at_byte (λ l. digits whole (n * 10 + (get_or s at 0 - 48)) (drop (at + 1) s) ≡ digits whole n l) s at h (sym (cond-true _ _ _ w))
+unended : (whole s : List ℕ) (n i : ℕ) → position_from no_digit i s ≡ None → digits whole n s ≡ fault EndsEarly []
+unended whole [] n i e = refl
+unended whole (b ∷ s) n i e =
+    ⊎_elim
+    (λ p. cond-true _ _ _ p ∙ unended whole s (n * 10 + (b - 48)) (i + 1) (sym (cond-false _ _ _ (ap not p)) ∙ e))
+    (λ p. absurd (let f : ◌≡◌ (Some i) None = sym (cond-true _ _ _ (ap not p)) ∙ e in cc))
+    (cases_Bool (is_digit_byte b))
 
-  pub digits_outside : at < length s → is_digit_byte (get_or s at 0) ≡ false → (leb 1 n && leb n 4096) ≡ false → digits whole n (drop at s) ≡ fault NumberOutside whole
-  digits_outside h w o = at_byte (λ l. digits whole n l ≡ fault NumberOutside whole) s at h (cond-false _ _ _ w ∙ cond-false _ _ _ o)
+-- the number that the digits before the place k write, and the bytes from there on
+abbrev pub ended : List ℕ → ℕ → List ℕ → Read ℕ
+ended whole n t = cond (leb 1 n && leb n 4096) (got n t) (fault NumberOutside whole)
 
-  pub digits_stop : at < length s → is_digit_byte (get_or s at 0) ≡ false → (leb 1 n && leb n 4096) ≡ true → digits whole n (drop at s) ≡ got n (drop at s)
-  digits_stop h w o = at_byte (λ l. digits whole n l ≡ got n l) s at h (cond-false _ _ _ w ∙ cond-true _ _ _ o)
+ended_at : (whole : List ℕ) (k n : ℕ) (s : List ℕ) → k < length s → no_digit (get_or s k 0) ≡ true → ((j : ℕ) → j < k → no_digit (get_or s j 0) ≡ false) → digits whole n s ≡ ended whole (fold more_digit n (take k s)) (drop k s)
+ended_at whole k n [] lt at before = absurd (omega arith)
+ended_at whole zero n (b ∷ s) lt at before = cond-false _ _ _ (not-true _ at)
+ended_at whole (suc k) n (b ∷ s) lt at before =
+    cond-true _ _ _ (not-false _ (before 0 (omega arith)))
+    ∙ step whole s n b
+    ∙ ended_at whole k (more_digit n b) s (omega arith) at (λ j h. before (suc j) (omega arith))
 
--- ---- one white byte
-pub white_goes : (s : List ℕ) → 0 < length s → is_white_byte (get_or s 0 0) ≡ true → white s ≡ got tt (drop 1 s)
-white_goes [] h w = absurd (omega arith)
-white_goes (b ∷ s) h w = cond-true _ _ _ w
+pub number_open : (b : ℕ) (s : List ℕ) → is_digit_byte b ≡ true → position (λ b. not (is_digit_byte b)) (b ∷ s) ≡ None → number (b ∷ s) ≡ fault EndsEarly []
+number_open b s first e = cond-true _ _ _ first ∙ unended (b ∷ s) (b ∷ s) 0 0 (sym (position_from-zero no_digit (b ∷ s)) ∙ e)
 
--- ---- the rows
-pub rows_go_on : (w h : ℕ) (s : List ℕ) → h * row_bytes w < length s → all_rows w h s ≡ fault BytesAfterRows (drop (h * row_bytes w) s)
-rows_go_on w h s lt = cond-false _ _ _ (le-ltb (length s) (h * row_bytes w) (omega arith)) ∙ cond-true _ _ _ (lt-ltb (h * row_bytes w) (length s) lt)
+pub number_ended : (bytes before rest : List ℕ) (k n : ℕ) → position (λ b. not (is_digit_byte b)) bytes ≡ Some k → before ≡ take k bytes → rest ≡ drop k bytes → n ≡ fold more_digit 0 before → (b : ℕ) (s : List ℕ) → bytes ≡ b ∷ s → is_digit_byte b ≡ true → number bytes ≡ ended bytes n rest
+number_ended bytes before rest k n e is-before is-rest is-n b s starts first =
+    let p = position-Some no_digit bytes k 0 e in
+    let whole : number bytes ≡ digits bytes 0 bytes = subst (λ l. number l ≡ digits l 0 l) (sym starts) (cond-true _ _ _ first) in
+    whole ∙ ended_at bytes k 0 bytes p.0 p.1 p.2 ∙ sym (λ i. ended bytes ((is-n ∙ ap (fold more_digit 0) is-before) i) (is-rest i))

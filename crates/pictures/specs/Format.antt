@@ -1,7 +1,7 @@
 -- The format of a picture file, as a grammar: which bytes are a picture file of w by h points, and which of them are its rows.
 -- It is the raw PBM format of the Netpbm page, without the liberties that its programs take. Assumes nothing.
 use Rattle.std.specs.Prelude.{◌≡◌, ℕ, ◌+◌, ◌-◌, ◌*◌, ◌<◌, ◌≤◌, ◌⊎◌, List, [], ◌∷◌, ◌++◌, length, ◌≢◌}
-use Rattle.std.specs.List.{AllByRecursion}
+use Rattle.std.specs.List.{All}
 use Rattle.pictures.specs.Rows.{RowsFit}
 
 -- tab, line feed, carriage return and space
@@ -12,14 +12,18 @@ White b = b ≡ 9 ⊎ b ≡ 10 ⊎ b ≡ 13 ⊎ b ≡ 32
 pub data Blank : List ℕ → Type 0 where
   nothing : Blank []
   white : {b : ℕ} {s : List ℕ} → White b → Blank s → Blank (b ∷ s)
-  comment : (c : List ℕ) {s : List ℕ} → AllByRecursion (λ b. b ≢ 10) c → Blank s → Blank (35 ∷ (c ++ (10 ∷ s)))
+  comment : (c : List ℕ) {s : List ℕ} → All (λ b. b ≢ 10) c → Blank s → Blank (35 ∷ (c ++ (10 ∷ s)))
 
 -- at least one of them
 abbrev pub Gap : List ℕ → Type 0
 Gap s = Blank s × (0 < length s)
 
+-- 0 to 9
+abbrev pub Digit : ℕ → Type 0
+Digit b = (48 ≤ b) × (b ≤ 57)
+
 abbrev pub Digits : List ℕ → Type 0
-Digits s = AllByRecursion (λ b. (48 ≤ b) × (b ≤ 57)) s
+Digits s = All Digit s
 
 -- the number that the decimal digits s write, where those before them write n
 abbrev pub value_after : ℕ → List ℕ → ℕ

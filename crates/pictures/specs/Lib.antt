@@ -3,5 +3,4 @@ pub mod Rows
 pub mod Format
 pub mod Reading
 pub mod FirstFault
-pub mod Parts
 pub mod Head

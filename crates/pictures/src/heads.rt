@@ -1,45 +1,28 @@
-// The head of a picture file, written into a buffer. It rests on the refusals.
-ghost use Rattle.std.specs.Prelude.{◌≡◌, ℕ, ◌+◌, ◌≤◌, List, ◌++◌, length, take, decimal, OnOk};
+// The head of a picture file, written into a buffer. It rests on the refusals, and on `itoa` for the digits of a number.
+ghost use Rattle.std.specs.Prelude.{◌≡◌, ℕ, ◌+◌, ◌≤◌, List, ◌++◌, length, take, OnOk};
 ghost use Rattle.pictures.specs.Rows.{RowsFit};
 ghost use Rattle.pictures.specs.Reading.{got, opened};
 ghost use Rattle.pictures.specs.Head.{head_of, over_front, heading};
 
 use crate::parts::LONGEST_SIDE;
 use crate::refusals::HeadRefusal;
+use itoa::Buffer;
 
 /// The most points of a row that a head may name.
 const WIDEST: u32 = 32768;
 
-/// The least number of two digits.
-const TWO_DIGITS: u32 = 10;
-
 /// The first line of every head.
 const MAGIC_LINE: [u8; 3] = *b"P4\n";
 
-/// How many decimal digits `n` has.
-fn decimal_len(n: u32) -> usize
-    ensures is { result ≡ length (decimal n) }
-    ensures bound { result ≤ 10 }
+/// Writes `part` at `at`, and answers the place after it.
+fn put(buf: &mut [u8], at: usize, part: &[u8]) -> usize
+    requires { at + length part.now ≤ length buf.old }
+    ensures after { result ≡ at + length part.now }
+    ensures written { buf.new ≡ over_front (take at buf.old ++ part.now) buf.old }
 {
-    if n < TWO_DIGITS {
-        1
-    } else {
-        decimal_len(n / 10) + 1
-    }
-}
-
-/// Writes the decimal digits of `n` at `at`, and answers the place after them.
-fn put_decimal(buf: &mut [u8], at: usize, n: u32) -> usize
-    requires { at + length (decimal n) ≤ length buf.old }
-    ensures after { result ≡ at + length (decimal n) }
-    ensures written { buf.new ≡ over_front (take at buf.old ++ decimal n) buf.old }
-{
-    let mut place = at;
-    if n >= TWO_DIGITS {
-        place = put_decimal(buf, at, n / 10);
-    }
-    buf[place] = b'0' + (n % 10) as u8;
-    place + 1
+    let end = at + part.len();
+    buf[at..end].copy_from_slice(part);
+    end
 }
 
 /// Writes the head of a picture file of `w` by `h` points over the front of `buf`, and answers its length. The bytes after it stay.
@@ -50,16 +33,21 @@ pub fn head(buf: &mut [u8], w: u32, h: u32) -> Result<usize, HeadRefusal>
     ensures leaves { buf.new ≡ (heading w h buf.old).leaves }
     ensures opens { OnOk result (w ≤ 4096 → (s : List ℕ) → RowsFit w h s → opened (head_of w h ++ s) ≡ got (w, h) s) }
 {
-    if w < 1 || w > WIDEST || h < 1 || h > LONGEST_SIDE {
+    if !(1..=WIDEST).contains(&w) || !(1..=LONGEST_SIDE).contains(&h) {
         return Err(HeadRefusal::Size);
     }
-    if buf.len() < MAGIC_LINE.len() + decimal_len(w) + 1 + decimal_len(h) + 1 {
+    let mut width = Buffer::new();
+    let width = width.format(w).as_bytes();
+    let mut height = Buffer::new();
+    let height = height.format(h).as_bytes();
+    if buf.len() < MAGIC_LINE.len() + width.len() + 1 + height.len() + 1 {
         return Err(HeadRefusal::BufferShort);
     }
-    buf[0..MAGIC_LINE.len()].copy_from_slice(&MAGIC_LINE);
-    let after_width = put_decimal(buf, MAGIC_LINE.len(), w);
-    buf[after_width] = b' ';
-    let after_height = put_decimal(buf, after_width + 1, h);
-    buf[after_height] = b'\n';
-    Ok(after_height + 1)
+    // Five calls and a sum by hand: of an array of the parts, the bound of their `sum` (`sum-len-requires-clause-fits`) is not proved.
+    let end = put(buf, 0, &MAGIC_LINE);
+    let end = put(buf, end, width);
+    let end = put(buf, end, b" ");
+    let end = put(buf, end, height);
+    let end = put(buf, end, b"\n");
+    Ok(end)
 }

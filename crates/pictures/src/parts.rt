@@ -1,38 +1,26 @@
-// The readers of the parts of a picture file. Each takes the bytes that are left and answers those after its part.
-// It rests on the refusals.
-ghost use Rattle.std.specs.Prelude.{◌≡◌, ℕ, ◌≤◌, length, MatchResult};
-ghost use Rattle.pictures.specs.Parts.{Stopped};
-ghost use Rattle.pictures.specs.Reading.{got, is_white_byte, is_digit_byte, magic, gap, number, white};
+// The readers of the parts of a picture file. Each takes the bytes that are left and answers those after its part, or those from
+// the fault on. It rests on the refusals.
+ghost use Rattle.std.specs.Prelude.{◌≡◌, ℕ, ◌≤◌, true, false, length, ◌==◌, position, IfOk, IfErr, MatchResult, not, fold, List, [], ◌∷◌, ◌⊎◌};
+ghost use Rattle.pictures.specs.Reading.{got, fault, is_white_byte, is_digit_byte, magic, blank, gap, more_digit, number, white};
+ghost use Rattle.pictures.specs.declared.refusals.PictureRefusal.TheVariants.{WrongByte, EndsEarly};
 
 use crate::refusals::PictureRefusal;
 
 /// The most points of a side of a picture.
 pub(crate) const LONGEST_SIDE: u32 = 4096;
 
-/// Why the reading stopped, and how many bytes of the file stand from there on.
+/// Why the reading stopped, and the bytes of the file from there on.
 #[derive(Clone, Copy)]
-pub(crate) struct Stop {
+pub(crate) struct Stop<'a> {
     pub(crate) refusal: PictureRefusal,
-    pub(crate) left: usize,
+    pub(crate) rest: &'a [u8],
 }
 
 /// The file ends before the part does.
 pub(crate) const FILE_END: Stop = Stop {
     refusal: PictureRefusal::EndsEarly,
-    left: 0,
+    rest: &[],
 };
-
-impl Stop {
-    /// The reading stopped at the first of these bytes.
-    pub(crate) fn before(bytes: &[u8], refusal: PictureRefusal) -> Stop
-        ensures is { (result.refusal ≡ refusal) × (result.left ≡ length bytes.now) }
-    {
-        Stop {
-            refusal,
-            left: bytes.len(),
-        }
-    }
-}
 
 fn is_white(b: u8) -> bool
     ensures { result ≡ is_white_byte b }
@@ -40,82 +28,112 @@ fn is_white(b: u8) -> bool
     matches!(b, b'\t' | b'\n' | b'\r' | b' ')
 }
 
-fn is_digit(b: u8) -> bool
-    ensures { result ≡ is_digit_byte b }
+/// Past the next byte, where it is one that `fits`.
+fn skip_one<F: Fn(u8) -> bool>(bytes: &[u8], fits: F) -> Result<&[u8], Stop<'_>>
+    requires { F.IsAlwaysCallable fits }
+    ensures past { IfOk result (λ s. (b : ℕ) × (bytes.now ≡ b ∷ s.now) × F.post fits b true) }
+    ensures stays { IfErr result (λ e. e.rest.now ≡ bytes.now) }
+    ensures why { IfErr result (λ e. (bytes.now ≡ [] × e.refusal ≡ EndsEarly) ⊎ ((b : ℕ) × (s : List ℕ) × (bytes.now ≡ b ∷ s) × F.post fits b false × e.refusal ≡ WrongByte)) }
 {
-    matches!(b, b'0'..=b'9')
+    match bytes {
+        [] => Err(FILE_END),
+        [first, rest @ ..] if fits(*first) => Ok(rest),
+        _ => Err(Stop {
+            refusal: PictureRefusal::WrongByte,
+            rest: bytes,
+        }),
+    }
 }
 
-/// Past the bytes 80 and 52.
-pub(crate) fn skip_magic(file: &[u8]) -> Result<&[u8], Stop>
-    ensures { MatchResult result (λ s. magic file.now ≡ got tt s.now) (λ e. Stopped (magic file.now) e.refusal e.left) }
+/// Past the bytes 80 and 52, P4.
+pub(crate) fn skip_magic(file: &[u8]) -> Result<&[u8], Stop<'_>>
+    ensures { MatchResult result (λ s. magic file.now ≡ got tt s.now) (λ e. magic file.now ≡ fault e.refusal e.rest.now) }
 {
-    let [80, 52, rest @ ..] = file else {
-        if file.len() < 2 {
-            return Err(FILE_END);
-        }
-        return Err(Stop::before(file, PictureRefusal::WrongMagic));
-    };
-    Ok(rest)
+    match file {
+        [b'P', b'4', rest @ ..] => Ok(rest),
+        [_, _, ..] => Err(Stop {
+            refusal: PictureRefusal::WrongMagic,
+            rest: file,
+        }),
+        _ => Err(FILE_END),
+    }
+}
+
+/// The place of the first byte 10.
+fn line_end(bytes: &[u8]) -> Option<usize>
+    ensures { result ≡ position (λ b. b == 10) bytes.now }
+{
+    bytes.iter().position(|b| *b == b'\n')
+}
+
+/// Past the next byte 10, from within a comment.
+fn skip_comment(bytes: &[u8]) -> Result<&[u8], Stop<'_>>
+    ensures reads { MatchResult result (λ s. blank true bytes.now ≡ blank false s.now) (λ e. blank true bytes.now ≡ fault e.refusal e.rest.now) }
+    ensures shorter { IfOk result (λ s. length s.now ≤ length bytes.now) }
+{
+    match line_end(bytes) {
+        Some(end) => Ok(&bytes[end + 1..]),
+        None => Err(FILE_END),
+    }
 }
 
 /// Past white bytes and comments, at least one.
-pub(crate) fn skip_gap(bytes: &[u8]) -> Result<&[u8], Stop>
-    ensures { MatchResult result (λ s. gap bytes.now ≡ got tt s.now) (λ e. Stopped (gap bytes.now) e.refusal e.left) }
+pub(crate) fn skip_gap(bytes: &[u8]) -> Result<&[u8], Stop<'_>>
+    ensures { MatchResult result (λ s. gap bytes.now ≡ got tt s.now) (λ e. gap bytes.now ≡ fault e.refusal e.rest.now) }
 {
-    let [first, ..] = bytes else {
-        return Err(FILE_END);
-    };
-    if !is_white(*first) && *first != b'#' {
-        return Err(Stop::before(bytes, PictureRefusal::WrongByte));
-    }
-    let mut in_comment = false;
-    for (at, byte) in bytes.iter().enumerate() {
-        let b = *byte;
-        if in_comment {
-            in_comment = b != b'\n';
-        } else if b == b'#' {
-            in_comment = true;
-        } else if !is_white(b) {
-            return Ok(&bytes[at..]);
-        }
+    skip_one(bytes, |b| is_white(b) || b == b'#')?;
+    let mut rest = bytes;
+    while let [first, after @ ..] = rest {
+        rest = match *first {
+            b'#' => skip_comment(after)?,
+            b if is_white(b) => after,
+            _ => return Ok(rest),
+        };
     }
     Err(FILE_END)
+}
+
+/// The place of the first byte that is no digit.
+fn digits_end(bytes: &[u8]) -> Option<usize>
+    ensures { result ≡ position (λ b. not (is_digit_byte b)) bytes.now }
+{
+    bytes.iter().position(|b| !b.is_ascii_digit())
+}
+
+/// The number that the digits write. Above the most of a `u32` it stays there, however many digits follow.
+fn value(digits: &[u8]) -> u32
+    ensures { result ≡ fold more_digit 0 digits.now }
+{
+    digits.iter().fold(
+        0u32,
+        |n, b| n
+            .saturating_mul(10)
+            .saturating_add(u32::from(b.saturating_sub(b'0'))),
+    )
 }
 
 /// A number from 1 to 4096, with the bytes after its digits.
-pub(crate) fn read_number(bytes: &[u8]) -> Result<(u32, &[u8]), Stop>
-    ensures { MatchResult result (λ x. (x.0 ≤ 4096) × (number bytes.now ≡ got x.0 x.1.now)) (λ e. Stopped (number bytes.now) e.refusal e.left) }
+pub(crate) fn read_number(bytes: &[u8]) -> Result<(u32, &[u8]), Stop<'_>>
+    ensures reads { MatchResult result (λ x. number bytes.now ≡ got x.0 x.1.now) (λ e. number bytes.now ≡ fault e.refusal e.rest.now) }
+    ensures least { IfOk result (λ x. 1 ≤ x.0) }
+    ensures most { IfOk result (λ x. x.0 ≤ 4096) }
 {
-    let [first, ..] = bytes else {
-        return Err(FILE_END);
-    };
-    if !is_digit(*first) {
-        return Err(Stop::before(bytes, PictureRefusal::WrongByte));
+    skip_one(bytes, |b| b.is_ascii_digit())?;
+    let end = digits_end(bytes).ok_or(FILE_END)?;
+    let (digits, rest) = bytes.split_at(end);
+    let n = value(digits);
+    if !(1..=LONGEST_SIDE).contains(&n) {
+        return Err(Stop {
+            refusal: PictureRefusal::NumberOutside,
+            rest: bytes,
+        });
     }
-    let mut n = 0;
-    for (at, byte) in bytes.iter().enumerate() {
-        if !is_digit(*byte) {
-            if n < 1 || n > LONGEST_SIDE {
-                return Err(Stop::before(bytes, PictureRefusal::NumberOutside));
-            }
-            return Ok((n, &bytes[at..]));
-        }
-        // past the most, the number only has to stay there
-        n = (n * 10 + u32::from(*byte - b'0')).min(LONGEST_SIDE + 1);
-    }
-    Err(FILE_END)
+    Ok((n, rest))
 }
 
-/// Past one white byte.
-pub(crate) fn skip_white(bytes: &[u8]) -> Result<&[u8], Stop>
-    ensures { MatchResult result (λ s. white bytes.now ≡ got tt s.now) (λ e. Stopped (white bytes.now) e.refusal e.left) }
+/// Past one white byte: a part of its own, since its clause is in the words of the format, as that of each part is.
+pub(crate) fn skip_white(bytes: &[u8]) -> Result<&[u8], Stop<'_>>
+    ensures { MatchResult result (λ s. white bytes.now ≡ got tt s.now) (λ e. white bytes.now ≡ fault e.refusal e.rest.now) }
 {
-    let [first, rest @ ..] = bytes else {
-        return Err(FILE_END);
-    };
-    if !is_white(*first) {
-        return Err(Stop::before(bytes, PictureRefusal::WrongByte));
-    }
-    Ok(rest)
+    skip_one(bytes, is_white)
 }

@@ -8,17 +8,17 @@ use std::fmt;
 #[derive(Clone, Copy, PartialEq, Eq, Debug)]
 pub enum PictureRefusal {
     /// Two bytes stand at the front, but not 80 and 52.
-    WrongMagic,
+    WrongMagic = 1,
     /// A byte stands where one of another kind is required.
-    WrongByte,
+    WrongByte = 2,
     /// A number is outside 1 to 4096.
-    NumberOutside,
+    NumberOutside = 3,
     /// The file ends before its last row does.
-    EndsEarly,
+    EndsEarly = 4,
     /// Bytes follow the rows.
-    BytesAfterRows,
+    BytesAfterRows = 5,
     /// The row number is not below the height.
-    NoSuchRow,
+    NoSuchRow = 6,
 }
 
 impl PictureRefusal {
@@ -26,14 +26,7 @@ impl PictureRefusal {
     pub fn number(self) -> u8
         ensures number { result ≡ number_of self }
     {
-        match self {
-            PictureRefusal::WrongMagic => 1,
-            PictureRefusal::WrongByte => 2,
-            PictureRefusal::NumberOutside => 3,
-            PictureRefusal::EndsEarly => 4,
-            PictureRefusal::BytesAfterRows => 5,
-            PictureRefusal::NoSuchRow => 6,
-        }
+        self as u8
     }
 
     fn words(self) -> &'static str
@@ -72,20 +65,18 @@ impl fmt::Display for PictureFault {
 #[derive(Clone, Copy, PartialEq, Eq, Debug)]
 pub enum HeadRefusal {
     /// The width is outside 1 to 32768, or the height outside 1 to 4096.
-    Size,
+    Size = 33,
     /// The buffer is shorter than the head.
-    BufferShort,
+    BufferShort = 34,
 }
 
+// Calls like those of `PictureRefusal`: a trait of both would state each law once more and save no line.
 impl HeadRefusal {
     /// The number of the refusal, 33 or 34.
     pub fn number(self) -> u8
         ensures number { result ≡ head_number_of self }
     {
-        match self {
-            HeadRefusal::Size => 33,
-            HeadRefusal::BufferShort => 34,
-        }
+        self as u8
     }
 
     fn words(self) -> &'static str

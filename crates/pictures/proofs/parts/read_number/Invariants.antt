@@ -1,6 +1,0 @@
-use Rattle.std.proofs.Common.{◌≡◌, ◌≤◌, drop}
-use Rattle.pictures.specs.Reading.{digits, number}
-use Rattle.pictures.proofs.parts.read_number.Given as goal
-
-abbrev pub invariant-loop-at : goal.invariant-loop-at
-invariant-loop-at l = (l.n ≤ 4097) × (digits l.bytes l.n (drop l.at l.bytes) ≡ number l.bytes)
