@@ -1,6 +1,5 @@
-pub mod PlaceFacts
-pub mod SetsFacts
-pub mod RecordFacts
-pub mod FindingFacts
+pub mod ListFacts
+pub mod QuestionFacts
 pub mod MakingFacts
 pub mod SchemeFacts
+pub mod RecordFacts

@@ -1,19 +1,15 @@
 -- What the fields of a scheme of sets say of one another: of the scheme of one keyholder, and of one that is made.
-use Rattle.std.proofs.Common.{◌≡◌, ℕ, zero, suc, ◌<◌, Bool, false, not, ◌&&◌, ◌||◌, eqb, List, [], ◌∷◌, length, get_or, take, sym, refl, ap, ◌∙◌, arith}
-use Rattle.schemes.specs.Bits.{bit}
-use Rattle.schemes.specs.Keyholders.{member}
+use Rattle.std.proofs.Common.{◌≡◌, ℕ, zero, suc, ◌^◌, ◌<◌, false, List, [], ◌∷◌, map, filter, length, sym, refl, ap, ◌∙◌, subst, arith}
+use Rattle.std.specs.List.{range_with_len}
 use Rattle.schemes.specs.declared.keyholders.KeyholderSet.{KeyholderSet}
-use Rattle.cumulative.specs.Access.{numbers, subset, qualifies, maximal, those_below, forbidden_sets}
+use Rattle.cumulative.specs.Access.{numbers, set_of, subset, qualifies, maximal, those_below, forbidden_sets}
+use Rattle.cumulative.specs.ListedFacts.{list_filtered}
 use Rattle.cumulative.specs.Making.{improper, ProperSets}
-use Rattle.cumulative.specs.Records.{noted, lacks, record_numbers, Kept}
-use Rattle.cumulative.specs.declared.records.KeyholderRecord.{KeyholderRecord}
-use Rattle.cumulative.proofs.RecordFacts.{lacks_push, kept_none}
 
-pub record Parts (n : ℕ) (minimal : List ℕ) (t : ℕ) (forbidden : List KeyholderSet) (records : List KeyholderRecord) : Type 0 where
+pub record Parts (n : ℕ) (minimal forbidden : List ℕ) (t : ℕ) : Type 0 where
   pub proper : ProperSets n minimal
-  pub found : numbers (take t forbidden) ≡ forbidden_sets n minimal
+  pub found : forbidden ≡ forbidden_sets n minimal
   pub rows : length (forbidden_sets n minimal) ≡ t
-  pub kept : Kept n (forbidden_sets n minimal) (record_numbers records)
 
 -- ---- one keyholder, who opens alone
 
@@ -30,20 +26,26 @@ one_forbidden : forbidden_sets 1 (1 ∷ []) ≡ 0 ∷ []
 unfolding subset qualifies maximal those_below
 one_forbidden = refl
 
-pub one_parts : (t : ℕ) (nobody : KeyholderSet) (blank : ℕ) (records : List KeyholderRecord) → t ≡ 1 → nobody.bits ≡ 0 → blank ≡ 0
-    → ((k p : ℕ) → k < 1 → noted (get_or (record_numbers records) k 0) p
-    ≡ ((eqb p 0 && not (member nobody.bits (suc k))) || noted (get_or (blank ∷ blank ∷ blank ∷ blank ∷ blank ∷ blank ∷ blank ∷ blank ∷ []) k 0) p))
-    → Parts 1 (1 ∷ []) t (nobody ∷ nobody ∷ nobody ∷ nobody ∷ nobody ∷ nobody ∷ nobody ∷ nobody ∷ []) records
-one_parts t nobody blank records e z b h = record {
-  proper = one_sets;
-  found =
-      ap (λ (x : ℕ). numbers (take x (nobody ∷ nobody ∷ nobody ∷ nobody ∷ nobody ∷ nobody ∷ nobody ∷ nobody ∷ []))) e
-      ∙ ap (λ (x : ℕ). x ∷ []) z ∙ sym one_forbidden;
-  rows = ap length one_forbidden ∙ sym e;
-  kept = λ k q l.
-      h k q l
-      ∙ ap (λ (x : ℕ). (eqb q 0 && not (bit x k)) || noted (get_or (blank ∷ blank ∷ blank ∷ blank ∷ blank ∷ blank ∷ blank ∷ blank ∷ []) k 0) q) z
-      ∙ ap (λ (x : Bool). (eqb q 0 && not (bit 0 k)) || x) (kept_none 1 blank b k q l)
-      ∙ sym (lacks_push [] 0 k q)
-      ∙ ap (λ (xs : List ℕ). lacks xs (suc k) q) (sym one_forbidden);
-}
+-- the list of one set
+pub one_listed : (items : List KeyholderSet) (one : KeyholderSet) (number : ℕ) → items ≡ one ∷ [] → one.bits ≡ number → numbers items ≡ number ∷ []
+one_listed items one number e b = ap numbers e ∙ ap (λ (x : ℕ). x ∷ []) b
+
+pub one_parts : (minimal forbidden : List ℕ) (t : ℕ) → minimal ≡ 1 ∷ [] → forbidden ≡ 0 ∷ [] → t ≡ 1 → Parts 1 minimal forbidden t
+one_parts minimal forbidden t p q e =
+    subst (λ (m : List ℕ). Parts 1 m forbidden t) (sym p)
+    (record { proper = one_sets; found = q ∙ sym one_forbidden; rows = ap length one_forbidden ∙ sym e })
+
+-- ---- one that is made
+
+-- the sets that the search lists
+pub sets_listed : (n : ℕ) (sets : List KeyholderSet) (n' : ℕ) (sets' items : List KeyholderSet) → n' ≡ n → sets' ≡ sets
+    → items ≡ filter (λ set. maximal n' (numbers sets') set.bits) (map set_of (range_with_len 0 (2 ^ n'))) → numbers items ≡ forbidden_sets n (numbers sets)
+sets_listed n sets n' sets' items p q e =
+    ap numbers e ∙ list_filtered (maximal n' (numbers sets')) (2 ^ n')
+    ∙ ap (λ (x : ℕ). forbidden_sets x (numbers sets')) p ∙ ap (λ (xs : List KeyholderSet). forbidden_sets n (numbers xs)) q
+
+pub made_parts : (n : ℕ) (items sets : List KeyholderSet) (forbidden : List ℕ) (t : ℕ) → items ≡ sets → ProperSets n (numbers sets)
+    → forbidden ≡ forbidden_sets n (numbers sets) → length forbidden ≡ t → Parts n (numbers items) forbidden t
+made_parts n items sets forbidden t e proper found long =
+    subst (λ (list : List KeyholderSet). Parts n (numbers list) forbidden t) (sym e)
+    (record { proper = proper; found = found; rows = sym (ap length found) ∙ long })

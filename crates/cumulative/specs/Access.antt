@@ -1,13 +1,17 @@
 -- Who may open together. The owners list minimal sets of keyholders. A set that contains one of them is qualified; any
 -- other set is forbidden. A forbidden set is maximal if every larger set of keyholders 1 to n is qualified.
-use Rattle.std.specs.Prelude.{◌≡◌, ℕ, zero, suc, ◌^◌, ◌<◌, Bool, cond, not, ◌&&◌, List, [], ◌∷◌, ◌++◌, map, length, ◌==◌, bit_and, slice_index}
+use Rattle.std.specs.Prelude.{◌≡◌, ℕ, zero, suc, ◌-◌, ◌^◌, ◌<◌, Bool, cond, not, ◌&&◌, List, [], ◌∷◌, ◌++◌, map, length, ◌==◌, bit_and, bit_or, slice_index}
 use Rattle.schemes.specs.Bits.{any_below}
-use Rattle.schemes.specs.Keyholders.{Within, Among}
+use Rattle.schemes.specs.Keyholders.{member, Within, Among}
 use Rattle.schemes.specs.declared.keyholders.KeyholderSet.{KeyholderSet}
 
 -- The numbers of a list of sets.
 abbrev pub numbers : List KeyholderSet → List ℕ
 numbers sets = map (λ set. set.bits) sets
+
+-- The set of a number.
+abbrev pub set_of : ℕ → KeyholderSet
+set_of number = record { bits = number }
 
 -- Every member of a is a member of b.
 unfoldable pub subset : (a b : ℕ) → Bool
@@ -20,6 +24,10 @@ qualifies minimal set = any_below (length minimal) (λ i. subset (slice_index mi
 -- The other set is larger than the set, and still forbidden.
 abbrev pub can_grow_to : (minimal : List ℕ) (set other : ℕ) → Bool
 can_grow_to minimal set other = (subset set other && not (other == set)) && not (qualifies minimal other)
+
+-- The keyholder is not in the set, and it stays forbidden where he joins it.
+abbrev pub can_join : (minimal : List ℕ) (set keyholder : ℕ) → Bool
+can_join minimal set keyholder = not (member set keyholder) && not (qualifies minimal (bit_or set (2 ^ (keyholder - 1))))
 
 -- The set is forbidden, and every larger set of keyholders 1 to n is qualified.
 unfoldable pub maximal : (n : ℕ) (minimal : List ℕ) (set : ℕ) → Bool

@@ -14,7 +14,7 @@ use Rattle.schemes.specs.AllOfFacts.{hide_row, white_0, black_all, white_rest, a
 use Rattle.schemes.specs.TableFacts.{LawfulRows, row_stack, tabled_lawful, tabled_in_range, light_is, dark_is, cell_in, keyholder_past, column_past}
 use Rattle.cumulative.specs.Access.{qualifies, forbidden_sets}
 use Rattle.cumulative.specs.Cumulative.{all_row, film_row, cumulative, LevelsOfSets, OpensToQualified}
-use Rattle.cumulative.specs.Records.{noted, lacks, in_record, Kept}
+use Rattle.cumulative.specs.Records.{noted, lacks, in_record}
 use Rattle.cumulative.specs.Making.{ProperSets}
 use Rattle.cumulative.specs.AccessFacts.{qualifies_decided, qualifies_more, covered, outside, everyone_qualifies, some_forbidden}
 
@@ -121,7 +121,7 @@ pub cumulative_access : (n : ℕ) (minimal : List ℕ) → OpensToQualified n mi
 cumulative_access n minimal set =
     Decides-and (ltb set (2 ^ n)) (qualifies minimal set) (ltb-true set (2 ^ n), lt-ltb set (2 ^ n)) (qualifies_decided minimal set)
 
--- ---- the table that a scheme holds
+-- ---- the records
 
 -- the record of anybody who is not a keyholder
 pub record_outside : (n : ℕ) (F : List ℕ) (i x q : ℕ) → (i < 1) ⊎ (n < i) → x ≡ 0 → noted x q ≡ in_record n F i q
@@ -131,13 +131,9 @@ record_outside n F i x q h e = ap (λ (y : ℕ). noted y q) e ∙ bit_of_0 q ∙
     go (inl l) = ap (λ (b : Bool). (b && leb i n) && lacks F i q) (lt-leb 1 i l)
     go (inr l) = ap (λ (b : Bool). b && lacks F i q) (and_right (leb 1 i) (leb i n) (lt-leb i n l))
 
--- the record of keyholder i of 1 to n, which stands at place i - 1
-pub record_inside : (n : ℕ) (F table : List ℕ) (i q : ℕ) → Kept n F table → 1 ≤ i → i ≤ n → noted (get_or table (i - 1) 0) q ≡ in_record n F i q
-record_inside n F table zero q h p l = absurd (omega arith)
-record_inside n F table (suc k) q h p l =
-    let e : suc k - 1 ≡ k = omega arith in
-    ap (λ (x : ℕ). noted (get_or table x 0) q) e ∙ h k q (omega arith)
-    ∙ sym (ap (λ (b : Bool). b && lacks F (suc k) q) (and_from (leb 1 (suc k)) (leb (suc k) n) (le-leb 1 (suc k) p) (le-leb (suc k) n l)))
+-- the record of keyholder i of 1 to n
+pub record_inside : (n : ℕ) (F : List ℕ) (i x q : ℕ) → 1 ≤ i → i ≤ n → noted x q ≡ lacks F i q → noted x q ≡ in_record n F i q
+record_inside n F i x q p l e = e ∙ sym (ap (λ (b : Bool). b && lacks F i q) (and_from (leb 1 i) (leb i n) (le-leb 1 i p) (le-leb i n l)))
 
 -- ---- the cell of a keyholder, by his record
 

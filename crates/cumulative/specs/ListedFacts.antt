@@ -1,8 +1,12 @@
--- The numbers below a bound that pass a test, in rising order: what is listed, and how a loop over the numbers lists them.
-use Rattle.std.proofs.Common.{◌≡◌, ℕ, zero, suc, ◌+◌, ◌-◌, ◌<◌, ◌≤◌, Bool, true, false, cond, ◌⊎◌, List, [], ◌∷◌, ◌++◌, length, get_or, sym, refl, ap, ◌∙◌, subst, inl, inr, add-one, arith}
+-- The numbers below a bound that pass a test, in rising order: what is listed, and how a loop or a chain over the numbers lists them.
+use Rattle.std.proofs.Common.{◌≡◌, ℕ, zero, suc, ◌+◌, ◌-◌, ◌<◌, ◌≤◌, Bool, true, false, cond, ◌⊎◌, List, [], ◌∷◌, ◌++◌, map, filter, count_by, length, get_or, sym, refl, ap, ◌∙◌, subst, inl, inr, add-one, arith}
 use Rattle.std.proofs.lemmas.List.{append-nil, length-append, length_push, get_or_append_left, get_or_push}
+use Rattle.std.proofs.lemmas.List.{map-append, map-id}
+use Rattle.std.proofs.lemmas.List.Sums.{length-filter}
+use Rattle.std.proofs.lemmas.List.FromFn.{filter_of_map_range_with_len_more}
 use Rattle.std.proofs.lemmas.Bool.{cases_lt, cases_eq, false≢true}
-use Rattle.cumulative.specs.Access.{those_below}
+use Rattle.std.specs.List.{range_with_len}
+use Rattle.cumulative.specs.Access.{numbers, set_of, those_below}
 
 -- ---- a list with one more, or not
 
@@ -109,3 +113,37 @@ module _ (test : ℕ → Bool) where
   list_more b c l =
       let e : (c - b) + b ≡ c = omega arith in
       subst (λ (x : ℕ). length (those_below b test) ≤ length (those_below x test)) e (list_add b (c - b))
+
+  -- ---- a chain over the numbers
+
+  module _ {X : Type 0} (of : ℕ → X) (number : X → ℕ) (same : (k : ℕ) → number (of k) ≡ k) where
+    abbrev passes : X → Bool
+    passes x = test (number x)
+
+    one_listed : (b : ℕ) (x : Bool) → map number (cond x (of b ∷ []) []) ≡ cond x (b ∷ []) []
+    one_listed b true = ap (λ (k : ℕ). k ∷ []) (same b)
+    one_listed b false = refl
+
+    chain_listed : (b : ℕ) → map number (filter passes (map of (range_with_len 0 b))) ≡ those_below b test
+    unfolding those_below
+    chain_listed zero = refl
+    chain_listed (suc b) =
+        let more : filter passes (map of (range_with_len 0 (suc b))) ≡ filter passes (map of (range_with_len 0 b)) ++ cond (passes (of b)) (of b ∷ []) []
+        = ap (λ (n : ℕ). filter passes (map of (range_with_len 0 n))) (sym (add-one b)) ∙ filter_of_map_range_with_len_more passes of 0 b b (omega arith) in
+        ap (map number) more
+        ∙ map-append number (filter passes (map of (range_with_len 0 b))) (cond (passes (of b)) (of b ∷ []) [])
+        ∙ ap (λ (xs : List ℕ). map number (filter passes (map of (range_with_len 0 b))) ++ xs) (one_listed b (passes (of b)))
+        ∙ ap (λ (xs : List ℕ). xs ++ cond (passes (of b)) (b ∷ []) []) (chain_listed b)
+        ∙ ap (λ (k : ℕ). those_below b test ++ cond (test k) (b ∷ []) []) (same b)
+
+  -- of the sets of the numbers
+  pub list_filtered : (b : ℕ) → numbers (filter (λ set. test set.bits) (map set_of (range_with_len 0 b))) ≡ those_below b test
+  list_filtered b = chain_listed set_of (λ set. set.bits) (λ k. refl) b
+
+  -- how many there are
+  pub list_counted : (b : ℕ) → count_by test (range_with_len 0 b) ≡ length (those_below b test)
+  list_counted b =
+      let same : (xs : List ℕ) → map (λ x. x) xs ≡ xs = λ xs. map-id xs in
+      sym (length-filter test (range_with_len 0 b))
+      ∙ ap (λ (xs : List ℕ). length (filter test xs)) (sym (same (range_with_len 0 b)))
+      ∙ ap length (sym (same (filter test (map (λ x. x) (range_with_len 0 b)))) ∙ chain_listed (λ x. x) (λ x. x) (λ k. refl) b)

@@ -1,18 +1,18 @@
 // The scheme of sets, made from the minimal sets of keyholders who may open together.
-ghost use Rattle.std.specs.Prelude.{◌≡◌, ℕ, suc, ◌<◌, ◌≤◌, false, [], ◌∷◌, length, take, IfOk, IfErr, OnErr, OnOk, slice_index};
+ghost use Rattle.std.specs.Prelude.{◌≡◌, ℕ, ◌+◌, ◌<◌, ◌≤◌, false, ◌&&◌, [], ◌∷◌, length, IfOk, IfErr, OnErr, OnOk};
+ghost use Rattle.std.specs.List.{list_any, range_with_len};
+ghost use Rattle.schemes.specs.AllOf.{all_of};
 ghost use Rattle.schemes.specs.Keyholders.{most_keyholders};
 ghost use Rattle.schemes.specs.Refusals.{refusal_in};
 ghost use Rattle.schemes.specs.declared.refusals.SchemeRefusal.TheVariants.{Memory};
 ghost use Rattle.cumulative.specs.Access.{numbers, forbidden_sets, IsForbiddenList};
 ghost use Rattle.cumulative.specs.Cumulative.{cumulative, LevelsOfSets, OpensToQualified};
 ghost use Rattle.cumulative.specs.Making.{improper, making_refusal, ByRulesOrNoMemory};
-ghost use Rattle.cumulative.specs.Records.{noted, lacks, in_record, record_numbers};
+ghost use Rattle.cumulative.specs.Records.{noted, in_record};
 ghost use Rattle.cumulative.specs.CumulativeFacts.{cumulative_in_range, cumulative_lawful, few_forbidden};
 
-use crate::checks::check_list;
-use crate::findings::{MOST_FORBIDDEN, find_forbidden};
-use crate::records::{KeyholderRecord, RECORDS, empty_record, note_absent};
-use crate::sets::is_qualified;
+use crate::access::Access;
+use crate::records::KeyholderRecord;
 use schemes::{AllOf, Colour, KeyholderSet, Scheme, SchemeRefusal};
 use std::alloc::Global;
 
@@ -22,16 +22,14 @@ use std::alloc::Global;
 pub struct Cumulative {
     n: u8,
     minimal: Vec<KeyholderSet>,
-    forbidden: [KeyholderSet; MOST_FORBIDDEN],
-    records: [KeyholderRecord; RECORDS],
+    forbidden: Vec<KeyholderSet>,
     table: AllOf,
     ghost least: { 1 ≤ n },
     ghost most: { n ≤ most_keyholders },
     ghost listed: { 1 ≤ length (numbers minimal.items) },
     ghost proper: { (i : ℕ) → i < length (numbers minimal.items) → improper n (numbers minimal.items) i ≡ false },
-    ghost found: { numbers (take table.n forbidden) ≡ forbidden_sets n (numbers minimal.items) },
+    ghost found: { numbers forbidden.items ≡ forbidden_sets n (numbers minimal.items) },
     ghost rows: { length (forbidden_sets n (numbers minimal.items)) ≡ table.n },
-    ghost kept: { (k q : ℕ) → k < n → noted (slice_index (record_numbers records) k) q ≡ lacks (forbidden_sets n (numbers minimal.items)) (suc k) q },
 }
 
 impl Cumulative {
@@ -41,19 +39,13 @@ impl Cumulative {
         ensures made { IfOk result (λ s. (s.n ≡ 1) × (numbers s.minimal.items ≡ 1 ∷ [])) }
         ensures levels { OnOk result (LevelsOfSets 1 (1 ∷ [])) }
     {
-        let Ok(minimal) = Vec::from_slice(heap, &[KeyholderSet::everyone(1)]) else {
-            return Err(SchemeRefusal::Memory);
-        };
-        let nobody = KeyholderSet::from_bits(0);
-        let forbidden = [nobody; MOST_FORBIDDEN];
-        let mut records = [empty_record(); RECORDS];
-        note_absent(&mut records, 1, nobody, 0);
+        let minimal = Vec::from_slice(heap, &[KeyholderSet::everyone(1)])?;
+        let forbidden = Vec::from_slice(heap, &[KeyholderSet::default()])?;
         let table = AllOf::new(1)?;
         Ok(Cumulative {
             n: 1,
             minimal,
             forbidden,
-            records,
             table,
         })
     }
@@ -66,21 +58,14 @@ impl Cumulative {
         ensures access { OnOk result (OpensToQualified n (numbers sets.now)) }
         ensures levels { OnOk result (LevelsOfSets n (numbers sets.now)) }
     {
-        check_list(n, sets)?;
-        let Some(found) = find_forbidden(n, sets) else {
-            return Err(SchemeRefusal::ForbiddenSets);
-        };
-        let table = AllOf::new(found.count as u8)?;
-        let Ok(minimal) = Vec::from_slice(heap, sets) else {
-            return Err(SchemeRefusal::Memory);
-        };
-        let forbidden = found.sets;
-        let records = found.records;
+        let access = Access::new(n, sets)?;
+        let minimal = Vec::from_slice(heap, sets)?;
+        let forbidden = access.forbidden_sets(heap)?;
+        let table = AllOf::new(forbidden.len() as u8)?;
         *self = Cumulative {
             n,
             minimal,
             forbidden,
-            records,
             table,
         };
         Ok(())
@@ -98,7 +83,7 @@ impl Cumulative {
         ensures sets { numbers result.now ≡ forbidden_sets self.now.n (numbers self.now.minimal.items) }
         ensures exactly { IsForbiddenList self.now.n (numbers self.now.minimal.items) (numbers result.now) }
     {
-        &self.forbidden[0..self.table.keyholders() as usize]
+        &self.forbidden
     }
 
     // The record of a keyholder: the numbers of the maximal forbidden sets that he is not in. It is empty for anybody who is
@@ -106,10 +91,19 @@ impl Cumulative {
     pub fn record(&self, keyholder: u8) -> KeyholderRecord
         ensures { (q : ℕ) → noted result.rows.bits q ≡ in_record self.now.n (forbidden_sets self.now.n (numbers self.now.minimal.items)) keyholder q }
     {
-        if keyholder < 1 || keyholder > self.n {
-            return empty_record();
+        if !(1..=self.n).contains(&keyholder) {
+            return KeyholderRecord::default();
         }
-        self.records[keyholder as usize - 1]
+        KeyholderRecord::of(keyholder, &self.forbidden)
+    }
+
+    // Whether one of the keyholder's rows of the table is black at the column. A chain asks for a clause that mirrors it.
+    fn has_black_row(&self, colour: Colour, keyholder: u8, column: u8) -> bool
+        ensures { result ≡ list_any (λ q. in_record self.now.n (forbidden_sets self.now.n (numbers self.now.minimal.items)) keyholder q && (all_of self.now.table.n).cell colour (q + 1) column) (range_with_len 0 self.now.table.n) }
+    {
+        let record = self.record(keyholder);
+        (0..self.table.keyholders()).any(|q| record.has(q)
+            && self.table.cell(colour, q + 1, column))
     }
 }
 
@@ -134,16 +128,14 @@ impl Scheme for Cumulative {
     }
 
     fn cell(&self, colour: Colour, keyholder: u8, column: u8) -> bool {
-        let record = self.record(keyholder);
-        for q in 0..self.table.keyholders() {
-            if record.has(q) && self.table.cell(colour, q + 1, column) {
-                return true;
-            }
-        }
-        false
+        self.has_black_row(colour, keyholder, column)
     }
 
     fn qualified(&self, set: KeyholderSet) -> bool {
-        set.is_among(self.n) && is_qualified(&self.minimal, set)
+        let access = Access {
+            n: self.n,
+            minimal: &self.minimal,
+        };
+        set.is_among(self.n) && access.is_qualified(set)
     }
 }

@@ -2,11 +2,10 @@
 // schemes, whose scheme all of n gives its table.
 #![tactic(auto)]
 
-mod checks;
+mod access;
 mod cumulative;
-mod findings;
+mod lists;
 mod records;
-mod sets;
 
 pub use cumulative::Cumulative;
 pub use records::KeyholderRecord;

@@ -3,14 +3,16 @@ use Rattle.std.proofs.Common.{◌≡◌, ℕ, ◌^◌, ◌<◌, ◌≤◌, Bool,
 use lib.Bits.{bit_and, and_le_r}
 use Rattle.std.proofs.lemmas.Bool.{cases_lt, true≢false, eqb-true, and_parts, and_from, not-true}
 use Rattle.std.proofs.lemmas.Bool.Decides.{same_from_decides}
+use Rattle.std.specs.List.{list_any, range_with_len}
 use Rattle.schemes.specs.Bits.{any_below}
 use Rattle.schemes.specs.Keyholders.{most_keyholders, Within}
 use Rattle.schemes.specs.Laws.{InRange}
 use Rattle.schemes.specs.Meaning.{Meaning}
-use Rattle.schemes.specs.TestFacts.{any_true, any_false, any_none}
+use Rattle.schemes.specs.TestFacts.{any_false, any_none}
 use Rattle.cumulative.specs.Access.{subset}
 use Rattle.cumulative.specs.AccessFacts.{within_subset, subset_within, subset_decided}
 use Rattle.cumulative.specs.ListedFacts.{listed, list_passes, list_rising}
+use Rattle.cumulative.proofs.ListFacts.{any_range}
 use Rattle.films.specs.Minimal.{MinimalQualified, IsMinimalList, is_qualified_part, is_minimal, minimal_sets_of}
 
 -- a part of a set has no greater number
@@ -28,11 +30,11 @@ pub minimal_unqualified : (s : Meaning) (set : ℕ) → s.qualified set ≡ fals
 unfolding is_minimal
 minimal_unqualified s set e = rw e refl
 
-pub minimal_not : (s : Meaning) (set other : ℕ) → s.qualified set ≡ true → other < set → is_qualified_part s set other ≡ true → false ≡ is_minimal s set
+pub minimal_asked : (s : Meaning) (set : ℕ) → s.qualified set ≡ true → not (list_any (is_qualified_part s set) (range_with_len 0 set)) ≡ is_minimal s set
 unfolding is_minimal
-minimal_not s set other e l h = rw (e, any_true set (is_qualified_part s set) other l h) refl
+minimal_asked s set e = rw (any_range set (is_qualified_part s set), e) refl
 
-pub minimal_is : (s : Meaning) (set n : ℕ) → s.qualified set ≡ true → set ≤ n → ((k : ℕ) → k < n → is_qualified_part s set k ≡ false) → true ≡ is_minimal s set
+minimal_is : (s : Meaning) (set n : ℕ) → s.qualified set ≡ true → set ≤ n → ((k : ℕ) → k < n → is_qualified_part s set k ≡ false) → true ≡ is_minimal s set
 unfolding is_minimal
 minimal_is s set n e l h = rw (e, any_false set (is_qualified_part s set) (λ k b. h k (omega arith))) refl
 

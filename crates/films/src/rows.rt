@@ -19,11 +19,12 @@ pub fn film_rows(
     let size = size as usize;
     let row = n as usize * size;
     let all = height as usize * row;
-    if keyholder < 1 || keyholder > n || all > strips.len() {
+    if !(1..=n).contains(&keyholder) || all > strips.len() {
         return Ok(None);
     }
     let first = (keyholder - 1) as usize * size;
     let mut rows = Vec::new(heap);
+    // A count of rows, and not chunks of the strips: a row may have no bytes, and then there is no chunk of its size.
     for y in 0..height as usize {
         let start = y * row + first;
         rows.extend_from_slice(&strips[start..start + size])?;

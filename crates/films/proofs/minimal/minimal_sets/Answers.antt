@@ -1,40 +1,19 @@
-use Rattle.std.proofs.Common.{◌≡◌, ℕ, ◌+◌, Bool, true, false, List, [], ◌∷◌, ◌++◌, vec_items, sym, ap, ◌∙◌, subst, arith}
-use Rattle.std.proofs.lemmas.List.{map_push}
-use Rattle.schemes.specs.declared.keyholders.KeyholderSet.{KeyholderSet}
-use Rattle.cumulative.specs.Access.{numbers, those_below}
-use Rattle.cumulative.specs.ListedFacts.{list_none, list_yes, list_no}
-use Rattle.films.specs.Minimal.{is_minimal, IsMinimalList, minimal_sets_of}
+use Rattle.std.proofs.Common.{◌^◌, sym, ap, ◌∙◌, subst}
+use Rattle.std.proofs.lemmas.Result.{IfOk-weaker}
+use Rattle.schemes.specs.Keyholders.{most_keyholders}
+use Rattle.cumulative.specs.Access.{numbers}
+use Rattle.cumulative.specs.ListedFacts.{list_filtered}
+use Rattle.films.specs.Minimal.{is_minimal, IsMinimalList}
 use Rattle.films.proofs.MinimalFacts.{minimal_list}
 use Rattle.films.proofs.minimal.minimal_sets.Goals as goal
-use Rattle.films.proofs.minimal.minimal_sets.Goals.{then-is_minimal+in_ok-push, else-is_minimal}
 
-pub loop-number-init : goal.loop-number-init
-loop-number-init g c = ap numbers c.new-sets.ensures.items ∙ sym (list_none (is_minimal (g.S.Scheme.means c.args.scheme.now)))
-
--- a set more, or not, by its test
-one_more : (test : ℕ → Bool) (b : ℕ) (old new : List KeyholderSet) (set : KeyholderSet) → set.bits ≡ b → numbers old ≡ those_below b test
-    → new ≡ old ++ set ∷ [] → true ≡ test set.bits → numbers new ≡ those_below (b + 1) test
-one_more test b old new set is h e t =
-    ap numbers e ∙ map_push (λ (x : KeyholderSet). x.bits) old set ∙ ap (λ (xs : List ℕ). xs ++ set.bits ∷ []) h
-    ∙ ap (λ (x : ℕ). those_below b test ++ x ∷ []) is ∙ sym (list_yes test b (ap test (sym is) ∙ sym t))
-
-none_more : (test : ℕ → Bool) (b set : ℕ) (old : List ℕ) → set ≡ b → old ≡ those_below b test → false ≡ test set → old ≡ those_below (b + 1) test
-none_more test b set old is h t = h ∙ sym (list_no test b (ap test (sym is) ∙ sym t))
-
-pub loop-number-preserved : goal.loop-number-preserved
-loop-number-preserved g c =
-    let test = is_minimal (g.S.Scheme.means c.args.scheme.now) in
-    elim c.if-is_minimal.branch [
-      | then-is_minimal+in_ok-push w ↦
-          one_more test c.loop-number.number (vec_items c.loop-number.sets) _ c.from_bits-set.result c.from_bits-set.ensures c.loop-number.invariant
-          (ap vec_items w.sets-is ∙ w.in_ok-push.ensures.items) w.if-is_minimal.ensures
-      | else-is_minimal w ↦
-          none_more test c.loop-number.number c.from_bits-set.result.bits _ c.from_bits-set.ensures (ap (λ v. numbers (vec_items v)) w.sets-is ∙ c.loop-number.invariant) w.if-is_minimal.ensures
-    ]
-
-pub returns : goal.returns
-returns g c =
+pub returns-clause-sets : goal.returns-clause-sets
+returns-clause-sets g c =
     let s = g.S.Scheme.means c.args.scheme.now in
-    let end : c.loop-number.number ≡ 256 = omega arith in
-    let all : numbers (vec_items c.loop-number.sets) ≡ minimal_sets_of s = c.loop-number.invariant ∙ ap (λ (b : ℕ). those_below b (is_minimal s)) end in
-    record { sets = all; exactly = subst (IsMinimalList s) (sym all) (minimal_list s (g.met.S.Scheme.in_range c.args.scheme.now)) }
+    IfOk-weaker c.listed_sets.result _ _ (λ v e. ap numbers e ∙ list_filtered (is_minimal s) (2 ^ most_keyholders)) c.listed_sets.ensures
+
+pub returns-clause-exactly : goal.returns-clause-exactly
+returns-clause-exactly g c =
+    let s = g.S.Scheme.means c.args.scheme.now in
+    IfOk-weaker c.listed_sets.result _ _
+    (λ v e. subst (IsMinimalList s) (sym (ap numbers e ∙ list_filtered (is_minimal s) (2 ^ most_keyholders))) (minimal_list s (g.met.S.Scheme.in_range c.args.scheme.now))) c.listed_sets.ensures

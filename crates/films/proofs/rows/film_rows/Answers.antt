@@ -1,4 +1,4 @@
-use Rattle.std.proofs.Common.{◌*◌, refl, arith}
+use Rattle.std.proofs.Common.{◌*◌, ◌≤◌, refl, arith}
 use Rattle.films.proofs.RowFacts.{all_fit, strip_within, row_more}
 use Rattle.films.proofs.rows.film_rows.Goals as goal
 
@@ -8,26 +8,35 @@ overflow_mul-all c = omega (arith, all_fit c.args.height c.args.n c.args.size (o
 pub overflow_mul-start : goal.overflow_mul-start
 overflow_mul-start c =
     let all = all_fit c.args.height c.args.n c.args.size (omega arith) (omega arith) (omega arith) in
-    let end = strip_within c.args.n c.args.size c.args.height c.loop-y.y c.args.keyholder (c.args.height * (c.args.n * c.args.size)) c.loop-y-test.true (omega arith) (omega arith) (omega arith) in
+    let least : 1 ≤ c.args.keyholder = grind arith in
+    let most : c.args.keyholder ≤ c.args.n = grind arith in
+    let end = strip_within c.args.n c.args.size c.args.height c.loop-y.y c.args.keyholder (c.args.height * (c.args.n * c.args.size)) c.loop-y-test.true least most (omega arith) in
     omega arith
 
 pub overflow_add-start : goal.overflow_add-start
 overflow_add-start c =
     let all = all_fit c.args.height c.args.n c.args.size (omega arith) (omega arith) (omega arith) in
-    let end = strip_within c.args.n c.args.size c.args.height c.loop-y.y c.args.keyholder (c.args.height * (c.args.n * c.args.size)) c.loop-y-test.true (omega arith) (omega arith) (omega arith) in
+    let least : 1 ≤ c.args.keyholder = grind arith in
+    let most : c.args.keyholder ≤ c.args.n = grind arith in
+    let end = strip_within c.args.n c.args.size c.args.height c.loop-y.y c.args.keyholder (c.args.height * (c.args.n * c.args.size)) c.loop-y-test.true least most (omega arith) in
     omega arith
 
 pub overflow_add-start-in-loop-y : goal.overflow_add-start-in-loop-y
 overflow_add-start-in-loop-y c =
     let all = all_fit c.args.height c.args.n c.args.size (omega arith) (omega arith) (omega arith) in
-    let end = strip_within c.args.n c.args.size c.args.height c.loop-y.y c.args.keyholder (c.args.height * (c.args.n * c.args.size)) c.loop-y-test.true (omega arith) (omega arith) (omega arith) in
+    let least : 1 ≤ c.args.keyholder = grind arith in
+    let most : c.args.keyholder ≤ c.args.n = grind arith in
+    let end = strip_within c.args.n c.args.size c.args.height c.loop-y.y c.args.keyholder (c.args.height * (c.args.n * c.args.size)) c.loop-y-test.true least most (omega arith) in
     omega arith
 
 pub slice_bounds-extend_from_slice-end : goal.slice_bounds-extend_from_slice-end
 slice_bounds-extend_from_slice-end c =
-    let end = strip_within c.args.n c.args.size c.args.height c.loop-y.y c.args.keyholder (c.args.height * (c.args.n * c.args.size)) c.loop-y-test.true (omega arith) (omega arith) (omega arith) in
+    let least : 1 ≤ c.args.keyholder = grind arith in
+    let most : c.args.keyholder ≤ c.args.n = grind arith in
+    let end = strip_within c.args.n c.args.size c.args.height c.loop-y.y c.args.keyholder (c.args.height * (c.args.n * c.args.size)) c.loop-y-test.true least most (omega arith) in
     omega arith
 
 pub loop-y-preserved : goal.loop-y-preserved
 loop-y-preserved c =
-    row_more c.args.n c.args.size c.args.strips.now c.args.keyholder c.loop-y.y _ _ _ (omega arith) refl c.loop-y.invariant c.in_ok-extend_from_slice.ensures.items
+    let least : 1 ≤ c.args.keyholder = grind arith in
+    row_more c.args.n c.args.size c.args.strips.now c.args.keyholder c.loop-y.y _ _ _ least refl c.loop-y.invariant c.in_ok-extend_from_slice.ensures.items

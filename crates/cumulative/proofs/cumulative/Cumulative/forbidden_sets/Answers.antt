@@ -1,12 +1,10 @@
-use Rattle.std.proofs.Common.{◌≡◌, ℕ, ◌-◌, take, vec_items, sym, ap, ◌∙◌, subst, arith}
+use Rattle.std.proofs.Common.{sym, ap, ◌∙◌, subst}
 use Rattle.cumulative.specs.Access.{numbers, IsForbiddenList}
 use Rattle.cumulative.specs.AccessFacts.{forbidden_list}
 use Rattle.cumulative.proofs.cumulative.Cumulative.forbidden_sets.Goals as goal
 
-pub returns : goal.returns
-returns c =
+pub returns-clause-exactly : goal.returns-clause-exactly
+returns-clause-exactly c =
     let s = c.args.self.now in
-    let minimal = numbers (vec_items s.minimal) in
-    let t : c.keyholders.result - 0 ≡ s.table.n = omega arith in
-    let e = ap (λ (x : ℕ). numbers (take x s.forbidden)) t ∙ s.found in
-    record { sets = e; exactly = subst (IsForbiddenList s.n minimal) (sym e) (forbidden_list s.n minimal) }
+    let minimal = numbers s.minimal.items in
+    subst (IsForbiddenList s.n minimal) (sym (ap numbers c.deref.ensures.value ∙ s.found)) (forbidden_list s.n minimal)

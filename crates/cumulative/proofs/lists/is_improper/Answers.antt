@@ -1,7 +1,7 @@
 use Rattle.std.proofs.Common.{◌^◌, Bool, not, ◌||◌, ltb, sym, ap, ◌∙◌, arith}
 use Rattle.std.proofs.lemmas.Bool.{or_left}
-use Rattle.cumulative.proofs.SetsFacts.{empty_asked}
-use Rattle.cumulative.proofs.sets.is_improper.Goals as goal
+use Rattle.cumulative.proofs.QuestionFacts.{empty_asked}
+use Rattle.cumulative.proofs.lists.is_improper.Goals as goal
 
 pub returns-then-is_empty : goal.returns-then-is_empty
 returns-then-is_empty c =
