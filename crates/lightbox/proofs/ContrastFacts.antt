@@ -1,13 +1,12 @@
 -- The contrast of a qualified set: dark is above light (`Distinct`).
-use Rattle.std.proofs.Common.{◌≡◌, ℕ, ◌^◌, true, Ok, Err, sym, ◌∙◌, inl, inr, arith}
-use Rattle.std.proofs.lemmas.Bool.{cases_lt, cond-true, true≢false}
+use Rattle.std.proofs.Common.{◌≡◌, ℕ, ◌^◌, true, sym, ◌∙◌, inl, inr, arith}
+use Rattle.std.proofs.lemmas.Bool.{cases_lt, true≢false}
 use Rattle.schemes.specs.Keyholders.{Among}
 use Rattle.schemes.specs.Laws.{InRange, Lawful}
 use Rattle.schemes.specs.Meaning.{Meaning, light, dark, stack}
 use Rattle.schemes.specs.declared.colour.Colour.TheVariants.{Black}
 use Rattle.schemes.specs.TestFacts.{count_le}
-use Rattle.lightbox.specs.declared.refusals.ContrastRefusal.TheVariants.{NotQualified}
-use Rattle.lightbox.specs.Contrasts.{contrast_of, Distinct}
+use Rattle.lightbox.specs.Contrasts.{Distinct}
 
 module _ (s : Meaning) (range : InRange s) (lawful : Lawful s) (set : ℕ) (qualified : s.qualified set ≡ true) where
   pub qualified_among : Among s.n set
@@ -21,6 +20,3 @@ module _ (s : Meaning) (range : InRange s) (lawful : Lawful s) (set : ℕ) (qual
     darker = lawful.shows set qualified_among qualified;
     at_most = count_le s.m (stack s Black set);
   }
-
-  pub contrast_qualified : Ok (light s set, dark s set, s.m) ≡ contrast_of s set
-  contrast_qualified = sym (cond-true (s.qualified set) (Ok (light s set, dark s set, s.m)) (Err NotQualified) qualified)

@@ -1,13 +1,14 @@
 -- Strips laid on a glass, byte by byte and bit by bit; a stack is black exactly where some strip is (`StacksAddUp`).
-use Rattle.std.proofs.Common.{◌≡◌, ℕ, ◌+◌, ◌-◌, ◌/◌, ◌%◌, ◌<◌, ◌≤◌, Bool, true, false, ◌||◌, eqb, ◌≢◌, List, [], ◌∷◌, length, get_or, set, replicate, fold, sym, refl, ap, ◌∙◌, ap₂, inl, inr, arith}
+use Rattle.std.proofs.Common.{◌≡◌, ℕ, ◌+◌, ◌-◌, ◌/◌, ◌%◌, ◌<◌, ◌≤◌, Bool, true, ◌||◌, eqb, ◌≢◌, List, [], ◌∷◌, length, get_or, set, replicate, fold, sym, refl, ap, ◌∙◌, ap₂, inl, inr, arith}
 use Rattle.std.proofs.Math.Bool.{or-false, or_assoc}
 use Rattle.std.specs.Int.Bits.{bit_or}
 use Rattle.std.specs.Simd.Lanes.{zip2}
-use Rattle.std.specs.List.{ContainsAt as Has, AllByRecursion}
-use Rattle.std.proofs.ByRecursion.{all-has, All-weaker, has_append_right, has_get_or}
+use Rattle.std.specs.List.{All, Contains, list_any}
+use Rattle.std.proofs.lemmas.List.Elements.{All-head, All-tail}
+use Rattle.std.proofs.lemmas.List.Folds.{Any-from_list_any, list_any-from_Any}
 use Rattle.std.proofs.lemmas.Simd.{length-zip2, get_or-zip2}
 use Rattle.std.proofs.lemmas.List.{get_or-set_same, get_or-set_other, ext_get_or, length-replicate}
-use Rattle.std.proofs.lemmas.Bool.{cases_eq, cases_lt, cond-true, eq-eqb, or_cases, or_left, or_right, true≢false}
+use Rattle.std.proofs.lemmas.Bool.{cases_eq, cases_lt, cond-true, eq-eqb}
 use Rattle.schemes.specs.Bits.{bit}
 use Rattle.schemes.specs.PackedRows.{bit_at}
 use Rattle.schemes.specs.BitFacts.{bit-or}
@@ -77,24 +78,26 @@ laid_bit glass strip b e = elim (cases_lt (b / 8) (length glass)) [
 
 -- some strip of the list is black at bit b
 abbrev pub any_black : (strips : List (List ℕ)) (b : ℕ) → Bool
-any_black [] b = false
-any_black (strip ∷ more) b = bit_at strip b || any_black more b
+any_black strips b = list_any (λ strip. bit_at strip b) strips
 
 module _ (size : ℕ) where
+  abbrev pub sized : List ℕ → Type 0
+  sized strip = length strip ≡ size
+
   abbrev pub OfSize : (strips : List (List ℕ)) → Type 0
-  OfSize strips = AllByRecursion (λ strip. length strip ≡ size) strips
+  OfSize strips = All sized strips
 
   pub folded_length : (strips : List (List ℕ)) (glass : List ℕ) → length glass ≡ size → OfSize strips → length (fold laid glass strips) ≡ size
   folded_length [] glass e h = e
   folded_length (strip ∷ more) glass e h =
-      folded_length more (laid glass strip) (laid_length glass strip (e ∙ sym h.0) ∙ e) h.1
+      folded_length more (laid glass strip) (laid_length glass strip (e ∙ sym (All-head sized strip more h)) ∙ e) (All-tail sized strip more h)
 
   pub folded_bit : (strips : List (List ℕ)) (glass : List ℕ) → length glass ≡ size → OfSize strips
       → (b : ℕ) → bit_at (fold laid glass strips) b ≡ (bit_at glass b || any_black strips b)
   folded_bit [] glass e h b = sym (or-false (bit_at glass b))
   folded_bit (strip ∷ more) glass e h b =
-      let f : length glass ≡ length strip = e ∙ sym h.0 in
-      folded_bit more (laid glass strip) (laid_length glass strip f ∙ e) h.1 b
+      let f : length glass ≡ length strip = e ∙ sym (All-head sized strip more h) in
+      folded_bit more (laid glass strip) (laid_length glass strip f ∙ e) (All-tail sized strip more h) b
       ∙ ap (λ (x : Bool). x || any_black more b) (laid_bit glass strip b f)
       ∙ or_assoc (bit_at glass b) (bit_at strip b) (any_black more b)
 
@@ -108,23 +111,11 @@ module _ (size : ℕ) where
 
 -- ---- some strip is black, as a strip of the list
 
-pub any_black_from : (b : ℕ) (strips : List (List ℕ)) → AllByRecursion (λ strip. bit_at strip b ≡ true → any_black strips b ≡ true) strips
-any_black_from b [] = tt
-any_black_from b (strip ∷ more) = (
-  or_left (bit_at strip b) (any_black more b),
-  All-weaker (λ x. bit_at x b ≡ true → any_black more b ≡ true) (λ x. bit_at x b ≡ true → any_black (strip ∷ more) b ≡ true)
-      (λ x h e. or_right (bit_at strip b) (any_black more b) (h e)) more (any_black_from b more),
-)
+pub any_black_has : (b : ℕ) (strips : List (List ℕ)) (strip : List ℕ) → Contains strips strip → bit_at strip b ≡ true → any_black strips b ≡ true
+any_black_has b strips strip has e = list_any-from_Any (λ x. bit_at x b) strips (has.0, strip, has.1, has.2, e)
 
-pub any_black_has : (b : ℕ) (strips : List (List ℕ)) (strip : List ℕ) → Has strips strip → bit_at strip b ≡ true → any_black strips b ≡ true
-any_black_has b strips strip has e = all-has (λ x. bit_at x b ≡ true → any_black strips b ≡ true) strips strip (any_black_from b strips) has e
-
-pub any_black_find : (b : ℕ) (strips : List (List ℕ)) → any_black strips b ≡ true → (strip : List ℕ) × Has strips strip × (bit_at strip b ≡ true)
-any_black_find b [] e = absurd (true≢false (sym e))
-any_black_find b (strip ∷ more) e = elim (or_cases (bit_at strip b) (any_black more b) e) [
-  | inl t ↦ (strip, has_get_or (strip ∷ more) 0 strip (omega arith), t)
-  | inr t ↦ let found = any_black_find b more t in (found.0, has_append_right (strip ∷ []) more found.0 found.1, found.2)
-]
+pub any_black_find : (b : ℕ) (strips : List (List ℕ)) → any_black strips b ≡ true → (strip : List ℕ) × Contains strips strip × (bit_at strip b ≡ true)
+any_black_find b strips e = let t = Any-from_list_any (λ x. bit_at x b) strips e in (t.1, (t.0, t.2, t.3), t.4)
 
 pub stacks_add_up : StacksAddUp
 stacks_add_up size strips h b = (

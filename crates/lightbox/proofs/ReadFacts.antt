@@ -78,3 +78,5 @@ module _ (m light dark w : ℕ) (glass : List ℕ) where
     not_dark = not_dark;
     before = λ c h. either_level (bit_at row c) (glass_count m glass c) (so.counted c h);
   }
+
+pub ruleset steps = (none_read, black_read, white_read, all_read, neither_read)

@@ -1,7 +1,7 @@
 -- The strips of a set's members on a clear glass: they give the set's stack (`StacksOfMembers`), and so what the stack shows.
 use Rattle.std.proofs.Common.{◌≡◌, ℕ, suc, ◌*◌, ◌<◌, ◌≤◌, Bool, true, ◌&&◌, List, length, drop, sym, ap, ◌∙◌, inl, inr, mul-le-mul_right, suc-mul, arith}
-use Rattle.std.specs.List.{AllByRecursion}
-use Rattle.std.proofs.ByRecursion.{all-has, All-weaker}
+use Rattle.std.specs.List.{All}
+use Rattle.std.proofs.lemmas.List.Elements.{All-contains, All-weaker}
 use Rattle.std.proofs.lemmas.List.{length-drop, length-take-le}
 use Rattle.std.proofs.lemmas.Bool.{and_from, and_parts, cases_Bool, true≢false}
 use Rattle.schemes.specs.Keyholders.{member}
@@ -11,7 +11,7 @@ use Rattle.schemes.specs.Strips.{square_bit, strip_size, strip_in, stack_bit, bl
 use Rattle.schemes.specs.TestFacts.{any_find, any_true, count_same}
 use Rattle.lightbox.specs.Laying.{stacked, StripsOf, StacksOfMembers}
 use Rattle.lightbox.specs.Reading.{Shows}
-use Rattle.lightbox.proofs.LayFacts.{any_black, any_black_has, any_black_find, stacked_bit}
+use Rattle.lightbox.proofs.LayFacts.{overlaid_none, overlaid_more, overlaid_all, stacks_add_up, any_black, any_black_has, any_black_find, stacked_bit}
 
 -- the strip of one of n keyholders lies within the output
 pub strip_in_length : (n size : ℕ) (out : List ℕ) → n * size ≤ length out → (k : ℕ) → k < n → length (strip_in size out (suc k)) ≡ size
@@ -26,7 +26,7 @@ module _ (n size set : ℕ) (out : List ℕ) (strips : List (List ℕ)) (of : St
   abbrev OfMember : List ℕ → Type 0
   OfMember strip = (k : ℕ) × (k < n) × (member set (suc k) ≡ true) × (strip ≡ strip_in size out (suc k))
 
-  pub strips_of_size : n * size ≤ length out → AllByRecursion (λ strip. length strip ≡ size) strips
+  pub strips_of_size : n * size ≤ length out → All (λ strip. length strip ≡ size) strips
   strips_of_size h =
       All-weaker OfMember (λ strip. length strip ≡ size) (λ strip t. ap length t.3 ∙ strip_in_length n size out h t.0 t.1) strips of.only
 
@@ -42,7 +42,7 @@ module _ (n size set : ℕ) (out : List ℕ) (strips : List (List ℕ)) (of : St
   glass_on_stack : (b : ℕ) → any_black strips b ≡ true → stack_bit n size set out b ≡ true
   glass_on_stack b e =
       let found = any_black_find b strips e in
-      let t = all-has OfMember strips found.0 of.only found.1 in
+      let t = All-contains OfMember strips found.0 of.only found.1 in
       any_true n (member_black b) t.0 t.1
       (and_from (member set (suc t.0)) (bit_at (strip_in size out (suc t.0)) b) t.2 (ap (λ (strip : List ℕ). bit_at strip b) (sym t.3) ∙ found.2))
 
@@ -69,3 +69,6 @@ stack_shows s set w out secret strips h of shown c l =
     (λ p. stack_bit s.n (strip_size s.m w) set out (square_bit s.m c p))
     (λ p _. stacks_of_members s.n (strip_size s.m w) set out strips h of (square_bit s.m c p))
     ∙ shown c l
+
+-- what `lay` rests on
+pub ruleset laying = (overlaid_none, overlaid_more, overlaid_all, stacks_add_up, stacks_of_members)

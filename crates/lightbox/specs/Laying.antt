@@ -1,14 +1,13 @@
 -- Strips laid on a glass. A glass is a strip too: as many bytes, a set bit is a black square. What lies on it adds up:
 -- a square of the glass is black where some strip that was laid on it is black.
-use Rattle.std.specs.Prelude.{◌≡◌, ℕ, suc, ◌*◌, ◌<◌, ◌≤◌, true, cond, not, ◌↔◌, List, [], ◌∷◌, length, replicate, fold, Option, ◌==◌, bit_or}
+use Rattle.std.specs.Prelude.{◌≡◌, ℕ, suc, ◌*◌, ◌<◌, ◌≤◌, true, cond, not, ◌↔◌, List, [], ◌∷◌, All, Contains, length, replicate, fold, Option, ◌==◌, bit_or}
 use Rattle.std.specs.Simd.Lanes.{zip2}
-use Rattle.std.specs.List.{ContainsAt as Has, AllByRecursion}
 use Rattle.schemes.specs.Keyholders.{member}
 use Rattle.schemes.specs.PackedRows.{bit_at}
+use Rattle.schemes.specs.Refusals.{first_refusal}
 use Rattle.schemes.specs.Strips.{strip_in, stack_bit}
 use Rattle.lightbox.specs.declared.refusals.LayRefusal.{LayRefusal}
 use Rattle.lightbox.specs.declared.refusals.LayRefusal.TheVariants.{Lengths}
-use Rattle.lightbox.specs.Refusals.{first_refusal}
 
 -- Why a strip is not laid, if it is not; by the lengths of the glass and the strip.
 abbrev pub lay_refusal : (glass_bytes strip_bytes : ℕ) → Option LayRefusal
@@ -27,14 +26,14 @@ stacked size strips = fold laid (replicate size 0) strips
 -- some of them is.
 abbrev pub StacksAddUp : Type 0
 StacksAddUp =
-    (size : ℕ) (strips : List (List ℕ)) → AllByRecursion (λ strip. length strip ≡ size) strips → (b : ℕ) →
-    (bit_at (stacked size strips) b ≡ true) ↔ ((strip : List ℕ) × Has strips strip × (bit_at strip b ≡ true))
+    (size : ℕ) (strips : List (List ℕ)) → All (λ strip. length strip ≡ size) strips → (b : ℕ) →
+    (bit_at (stacked size strips) b ≡ true) ↔ ((strip : List ℕ) × Contains strips strip × (bit_at strip b ≡ true))
 
 -- The strips of a list are those of a set's members, out of n and as they stand in an output: every member's strip is in
 -- the list, and no other.
 pub record StripsOf (n size set : ℕ) (out : List ℕ) (strips : List (List ℕ)) : Type 0 where
-  pub every : (k : ℕ) → k < n → member set (suc k) ≡ true → Has strips (strip_in size out (suc k))
-  pub only : AllByRecursion (λ strip. (k : ℕ) × (k < n) × (member set (suc k) ≡ true) × (strip ≡ strip_in size out (suc k))) strips
+  pub every : (k : ℕ) → k < n → member set (suc k) ≡ true → Contains strips (strip_in size out (suc k))
+  pub only : All (λ strip. (k : ℕ) × (k < n) × (member set (suc k) ≡ true) × (strip ≡ strip_in size out (suc k))) strips
 
 -- The strips of a set's members, laid on a clear glass in any order and each any number of times, give the set's stack.
 abbrev pub StacksOfMembers : Type 0

@@ -5,11 +5,11 @@ use Rattle.schemes.specs.declared.colour.Colour.TheVariants.{White, Black}
 use Rattle.schemes.specs.Laws.{InRange, Lawful}
 use Rattle.schemes.specs.Meaning.{Meaning, blacks, light, dark}
 use Rattle.schemes.specs.PackedRows.{bytes_for, bit_at, packed, Bytes}
+use Rattle.schemes.specs.Refusals.{first_refusal}
 use Rattle.schemes.specs.Strips.{most_pixels, most_squares, strip_squares, strip_size, blacks_over, pixel}
 use Rattle.lightbox.specs.declared.refusals.ContrastRefusal.TheVariants.{NotQualified}
 use Rattle.lightbox.specs.declared.refusals.ReadRefusal.{ReadRefusal}
 use Rattle.lightbox.specs.declared.refusals.ReadRefusal.TheVariants.{Width, Squares, Contrast, GlassLength, OutputLength, NeitherLevel}
-use Rattle.lightbox.specs.Refusals.{first_refusal}
 
 -- ---- before a square is counted
 

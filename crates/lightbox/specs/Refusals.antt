@@ -1,5 +1,5 @@
 -- Why the light box refuses: the number of each refusal, and its place where it has one.
-use Rattle.std.specs.Prelude.{ℕ, Bool, cond, List, [], ◌∷◌, Some, None, Option}
+use Rattle.std.specs.Prelude.{ℕ, Some, None, Option}
 use Rattle.lightbox.specs.declared.refusals.LayRefusal.{LayRefusal}
 use Rattle.lightbox.specs.declared.refusals.LayRefusal.TheVariants.{Lengths}
 use Rattle.lightbox.specs.declared.refusals.ContrastRefusal.{ContrastRefusal}
@@ -29,8 +29,3 @@ read_place (Contrast why) = None
 read_place GlassLength = None
 read_place OutputLength = None
 read_place (NeitherLevel pixel) = Some pixel
-
--- The first refusal of a list whose test applies.
-abbrev pub first_refusal : {A : Type 0} → List (Bool × A) → Option A
-first_refusal [] = None
-first_refusal (check ∷ more) = cond check.0 (Some check.1) (first_refusal more)

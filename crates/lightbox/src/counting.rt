@@ -6,21 +6,18 @@ ghost use Rattle.schemes.specs.Strips.{square_bit, blacks_over};
 use schemes::bit_at;
 
 // The bit of a square of a pixel in a strip, for so many columns.
+#[tactic(auto, unfolding(schemes::specs::Strips::square_bit))]
 fn square_bit(columns: u8, pixel: u32, square: u8) -> usize
     ensures { result ≡ square_bit columns pixel square }
 {
-    pixel as usize * columns as usize + square as usize
+    pixel as usize * usize::from(columns) + usize::from(square)
 }
 
 // How many of a pixel's squares are black on the glass, for so many columns. Squares past its end are white.
 pub fn count_block(glass: &[u8], columns: u8, pixel: u32) -> u8
     ensures { result ≡ blacks_over columns (bit_at glass.now) pixel }
 {
-    let mut total = 0;
-    for square in 0..columns {
-        if bit_at(glass, square_bit(columns, pixel, square)) {
-            total += 1;
-        }
-    }
-    total
+    (0..columns)
+        .filter(|square| bit_at(glass, square_bit(columns, pixel, *square)))
+        .count() as u8
 }

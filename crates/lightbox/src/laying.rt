@@ -7,6 +7,7 @@ use crate::LayRefusal;
 
 // Lays a strip on the glass: each byte of the glass becomes its OR with the strip's. Refused where the lengths differ, and
 // the glass stays as it is. A glass is cleared by filling it with 0.
+#[tactic(auto, using(crate::proofs::StackFacts::laying))]
 pub fn lay(glass: &mut [u8], strip: &[u8]) -> Result<(), LayRefusal>
     ensures refusal { refusal_in result ≡ lay_refusal (length glass.old) (length strip.now) }
     ensures leaves { glass.new ≡ laid glass.old strip.now }
@@ -16,8 +17,9 @@ pub fn lay(glass: &mut [u8], strip: &[u8]) -> Result<(), LayRefusal>
     if glass.len() != strip.len() {
         return Err(LayRefusal::Lengths);
     }
-    for i in 0..glass.len() {
-        glass[i] |= strip[i];
+    // An index: what a loop over `glass.iter_mut().zip(strip)` writes is not known after it (`returns-clause-leaves`).
+    for (i, byte) in glass.iter_mut().enumerate() {
+        *byte |= strip[i];
     }
     Ok(())
 }

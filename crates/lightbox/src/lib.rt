@@ -6,11 +6,13 @@ mod counting;
 mod laying;
 mod reading;
 mod refusals;
+mod seen;
 
 pub use contrasts::contrast;
 pub use laying::lay;
-pub use reading::read;
+pub use reading::{check_reading, read};
 pub use refusals::{ContrastRefusal, LayRefusal, ReadRefusal};
+pub use seen::Contrast;
 
 #[cfg(test)]
 mod tests;

@@ -1,31 +1,34 @@
 // What a glass shows, read as a row of pixels. Rests on the counts of blocks and the contrast of a set.
-ghost use Rattle.std.specs.Prelude.{◌≡◌, ◌<◌, length, IfOk, Ok, OnOk};
+ghost use Rattle.std.specs.Prelude.{◌≡◌, ◌≤◌, length, IfOk, Ok, OnOk};
 ghost use Rattle.schemes.specs.PackedRows.{bytes_for};
 ghost use Rattle.schemes.specs.Refusals.{refusal_in};
-ghost use Rattle.lightbox.specs.Contrasts.{contrast_of, Distinct};
+ghost use Rattle.schemes.specs.Strips.{most_squares};
+ghost use Rattle.lightbox.specs.Contrasts.{contrast_of};
 ghost use Rattle.lightbox.specs.Reading.{early_refusal, Counted, Reading, OneReading, ReadsWhatShows};
 
-use crate::ReadRefusal;
-use crate::contrasts::contrast;
 use crate::counting::count_block;
+use crate::{Contrast, ReadRefusal, contrast};
 use schemes::{
-    KeyholderSet, MOST_PIXELS, MOST_SQUARES, Scheme, bytes_for, set_bit, strip_size, strip_squares,
+    Colour, KeyholderSet, MOST_PIXELS, MOST_SQUARES, Scheme, bytes_for, set_bit, strip_size,
+    strip_squares,
 };
 
-// Light, dark and m of a reading that is not refused early, by the lengths of the glass and the output.
-fn admit<S: Scheme>(
+// What the set sees. Refused as `read` refuses before it counts a square, by the lengths of the glass and the output.
+// Its arguments are those of `read`: a caller has each of them apart.
+pub fn check_reading<S: Scheme>(
     scheme: &S,
     set: KeyholderSet,
     w: u32,
     glass_bytes: usize,
     out_bytes: usize,
-) -> Result<(u8, u8, u8), ReadRefusal>
+) -> Result<Contrast, ReadRefusal>
     ensures refusal { refusal_in result ≡ early_refusal (S.means scheme.now) set.bits w glass_bytes out_bytes }
-    ensures contrast { IfOk result (λ seen. contrast_of (S.means scheme.now) set.bits ≡ Ok seen) }
-    ensures levels { IfOk result Distinct }
+    ensures seen { IfOk result
+        (λ seen. contrast_of (S.means scheme.now) set.bits ≡ Ok (seen.light, seen.dark, seen.columns)) }
+    ensures short { OnOk result (glass_bytes ≤ bytes_for most_squares) }
     ensures long { OnOk result (out_bytes ≡ bytes_for w) }
 {
-    if w < 1 || w > MOST_PIXELS {
+    if !(1..=MOST_PIXELS).contains(&w) {
         return Err(ReadRefusal::Width);
     }
     let m = scheme.columns();
@@ -43,26 +46,21 @@ fn admit<S: Scheme>(
 }
 
 // Counts the black squares of each pixel, and makes a row of them.
-fn count_row(
-    light: u8,
-    dark: u8,
-    m: u8,
-    w: u32,
-    glass: &[u8],
-    out: &mut [u8],
-) -> Result<(), ReadRefusal>
-    requires levels { light < dark }
-    requires long { length out.old ≡ bytes_for w }
-    ensures { Counted m light dark w glass.now result out.new }
+#[tactic(auto, using(crate::proofs::ReadFacts::steps))]
+fn count_row(seen: Contrast, w: u32, glass: &[u8], out: &mut [u8]) -> Result<(), ReadRefusal>
+    requires { length out.old ≡ bytes_for w }
+    ensures { Counted seen.columns seen.light seen.dark w glass.now result out.new }
 {
     out.fill(0); // all white, and the spare bits 0
+    // By the pixel's number: it says which squares are counted, which bit is set, and where the row is refused.
     for c in 0..w {
-        let blacks = count_block(glass, m, c);
-        if blacks == dark {
-            set_bit(out, c as usize);
-        } else if blacks != light {
-            out.fill(0);
-            return Err(ReadRefusal::NeitherLevel(c));
+        match seen.colour_of(count_block(glass, seen.columns, c)) {
+            Some(Colour::White) => {}
+            Some(Colour::Black) => set_bit(out, c as usize),
+            None => {
+                out.fill(0);
+                return Err(ReadRefusal::NeitherLevel(c));
+            }
         }
     }
     Ok(())
@@ -73,6 +71,7 @@ fn count_row(
 // Refused where w is outside 1 to 4096, where a strip has more than 32768 squares, where the set is not qualified, where
 // the glass is not a strip long, or the output not a row; the output then stays as it is. Refused too where a pixel has
 // another count of black squares; the output is then all 0.
+#[tactic(auto, using(crate::proofs::ReadingFacts::one_reading, crate::proofs::ReadingFacts::reads_what_shows))]
 pub fn read<S: Scheme>(
     scheme: &S,
     set: KeyholderSet,
@@ -84,6 +83,6 @@ pub fn read<S: Scheme>(
     ensures determined { OneReading }
     ensures restores { ReadsWhatShows }
 {
-    let (light, dark, m) = admit(scheme, set, w, glass.len(), out.len())?;
-    count_row(light, dark, m, w, glass, out)
+    let seen = check_reading(scheme, set, w, glass.len(), out.len())?;
+    count_row(seen, w, glass, out)
 }

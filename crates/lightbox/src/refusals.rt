@@ -9,14 +9,14 @@ use std::fmt;
 #[derive(Clone, Copy, PartialEq, Eq, Debug)]
 pub enum LayRefusal {
     // The strip is not as long as the glass.
-    Lengths,
+    Lengths = 28,
 }
 
 // Why a set has no contrast.
 #[derive(Clone, Copy, PartialEq, Eq, Debug)]
 pub enum ContrastRefusal {
     // The set is not qualified.
-    NotQualified,
+    NotQualified = 29,
 }
 
 // Why a glass is not read.
@@ -41,8 +41,13 @@ impl LayRefusal {
     pub fn number(self) -> u8
         ensures { result ≡ lay_number self }
     {
+        self as u8
+    }
+
+    // What is wrong, in words.
+    fn words(self) -> &'static str {
         match self {
-            LayRefusal::Lengths => 28,
+            LayRefusal::Lengths => "the strip is not as long as the glass",
         }
     }
 }
@@ -52,14 +57,19 @@ impl ContrastRefusal {
     pub fn number(self) -> u8
         ensures { result ≡ contrast_number self }
     {
+        self as u8
+    }
+
+    // What is wrong, in words.
+    fn words(self) -> &'static str {
         match self {
-            ContrastRefusal::NotQualified => 29,
+            ContrastRefusal::NotQualified => "the set is not qualified",
         }
     }
 }
 
 impl ReadRefusal {
-    // The refusal's number.
+    // The refusal's number. By a match: two of the variants hold a value, so that no `as` gives it.
     pub fn number(self) -> u8
         ensures { result ≡ read_number self }
     {
@@ -82,6 +92,18 @@ impl ReadRefusal {
             _ => None,
         }
     }
+
+    // What is wrong, in words.
+    fn words(self) -> &'static str {
+        match self {
+            ReadRefusal::Width => "the width is outside 1 to 4096",
+            ReadRefusal::Squares => "a strip of this width has more than 32768 squares",
+            ReadRefusal::Contrast(why) => why.words(),
+            ReadRefusal::GlassLength => "the glass is not as long as a strip of this width",
+            ReadRefusal::OutputLength => "the output is not as long as a row of this width",
+            ReadRefusal::NeitherLevel(_) => "the count of black squares is neither light nor dark",
+        }
+    }
 }
 
 impl From<ContrastRefusal> for ReadRefusal {
@@ -92,50 +114,34 @@ impl From<ContrastRefusal> for ReadRefusal {
     }
 }
 
+// Writes a refusal, as `refused 32 at 5: ..`, or as `refused 28: ..` where it is about no pixel.
+// Private in each crate: nothing is proved of printed text, and a public call has a contract.
+fn write_refusal<W: fmt::Write>(
+    f: &mut fmt::Formatter<W>,
+    number: u8,
+    place: Option<u32>,
+    words: &str,
+) -> fmt::Result {
+    match place {
+        Some(pixel) => write!(f, "refused {number} at {pixel}: {words}"),
+        None => write!(f, "refused {number}: {words}"),
+    }
+}
+
 impl fmt::Display for LayRefusal {
     fn fmt<W: fmt::Write>(&self, f: &mut fmt::Formatter<W>) -> fmt::Result {
-        let number = self.number();
-        match *self {
-            LayRefusal::Lengths => {
-                write!(f, "refused {number}: the strip is not as long as the glass")
-            }
-        }
+        write_refusal(f, self.number(), None, self.words())
     }
 }
 
 impl fmt::Display for ContrastRefusal {
     fn fmt<W: fmt::Write>(&self, f: &mut fmt::Formatter<W>) -> fmt::Result {
-        let number = self.number();
-        match *self {
-            ContrastRefusal::NotQualified => {
-                write!(f, "refused {number}: the set is not qualified")
-            }
-        }
+        write_refusal(f, self.number(), None, self.words())
     }
 }
 
 impl fmt::Display for ReadRefusal {
     fn fmt<W: fmt::Write>(&self, f: &mut fmt::Formatter<W>) -> fmt::Result {
-        let number = self.number();
-        match *self {
-            ReadRefusal::Width => write!(f, "refused {number}: the width is outside 1 to 4096"),
-            ReadRefusal::Squares => write!(
-                f,
-                "refused {number}: a strip of this width has more than 32768 squares"
-            ),
-            ReadRefusal::Contrast(why) => write!(f, "{why}"),
-            ReadRefusal::GlassLength => write!(
-                f,
-                "refused {number}: the glass is not as long as a strip of this width"
-            ),
-            ReadRefusal::OutputLength => write!(
-                f,
-                "refused {number}: the output is not as long as a row of this width"
-            ),
-            ReadRefusal::NeitherLevel(pixel) => write!(
-                f,
-                "refused {number} at {pixel}: the count of black squares is neither light nor dark"
-            ),
-        }
+        write_refusal(f, self.number(), self.place(), self.words())
     }
 }

@@ -3,26 +3,26 @@ use super::*;
 use schemes::{AllOf, KeyholderSet, TwoOf};
 use std::test::Fail;
 
-// Readings with two of 3: a set, a width and a glass; then the number (0 for none) and the place of the refusal, and the
+// Readings with two of 3: a set, a width and a glass; then the number and the place of the refusal, if there is one, and the
 // output of one byte, which is 255 before. The set 3 of two members has the levels 1 and 2, the set 7 of all has 1 and 3.
-const READINGS: [(u8, u32, [u8; 2], u8, Option<u32>, u8); 8] = [
+const READINGS: [(u8, u32, [u8; 2], Option<(u8, Option<u32>)>, u8); 8] = [
     // 100 110 010 011 001 is white, black, white, black, white. The spare square counts for nothing.
-    (3, 5, [0b1001_1001, 0b0011_0011], 0, None, 0b0101_0000),
+    (3, 5, [0b1001_1001, 0b0011_0011], None, 0b0101_0000),
     // Three members see pixel 1 as neither white nor black, and pixel 3 too.
-    (7, 5, [0b1001_1001, 0b0011_0011], 32, Some(1), 0),
+    (7, 5, [0b1001_1001, 0b0011_0011], Some((32, Some(1))), 0),
     // Pixel 3 has one square too many.
-    (3, 5, [0b1001_1001, 0b0111_0010], 32, Some(3), 0),
+    (3, 5, [0b1001_1001, 0b0111_0010], Some((32, Some(3))), 0),
     // Of two refusals that apply, the one of the lower number is answered.
-    (1, 0, [0, 0], 17, None, 255),
-    (1, 4097, [0, 0], 17, None, 255),
-    (1, 6, [0, 0], 29, None, 255),
-    (3, 6, [0, 0], 30, None, 255),
-    (3, 9, [0, 0], 30, None, 255),
+    (1, 0, [0, 0], Some((17, None)), 255),
+    (1, 4097, [0, 0], Some((17, None)), 255),
+    (1, 6, [0, 0], Some((29, None)), 255),
+    (3, 6, [0, 0], Some((30, None)), 255),
+    (3, 9, [0, 0], Some((30, None)), 255),
 ];
 
 #[test]
 fn reads(rt: HostRuntime) -> Result<(), Fail> {
-    for (set, w, glass, number, place, row) in READINGS {
+    for (set, w, glass, refusal, row) in READINGS {
         let mut out = [255];
         let answer = read(
             &TwoOf::new(3)?,
@@ -31,11 +31,8 @@ fn reads(rt: HostRuntime) -> Result<(), Fail> {
             &glass,
             &mut out,
         );
-        let (said, at) = match answer {
-            Ok(()) => (0, None),
-            Err(why) => (why.number(), why.place()),
-        };
-        assert_eq!(rt; (said, at, out[0]), (number, place, row));
+        let said = answer.err().map(|why| (why.number(), why.place()));
+        assert_eq!(rt; (said, out[0]), (refusal, row));
     }
     Ok(())
 }
@@ -53,7 +50,14 @@ fn lays_and_reads(rt: HostRuntime) -> Result<(), Fail> {
     let mut out = [255];
     read(&scheme, both, 2, &glass, &mut out)?;
     assert_eq!(rt; out[0], 0b0100_0000);
-    assert_eq!(rt; contrast(&scheme, both), Ok((1, 2, 2)));
+    assert_eq!(rt;
+        contrast(&scheme, both),
+        Ok(Contrast {
+            light: 1,
+            dark: 2,
+            columns: 2
+        })
+    );
     Ok(())
 }
 

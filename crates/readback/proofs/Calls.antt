@@ -1,11 +1,13 @@
 -- The ways that a call of `read_back` ends: what it leaves (`LaidAndRead`), that readable films come back (`Restores`), and the
 -- law of whole runs.
-use Rattle.std.proofs.Common.{◌≡◌, ℕ, ◌*◌, ◌≤◌, Bool, true, false, cond, ltb, List, [], ◌∷◌, length, Some, None, Err, Option, Result, sym, refl, ap, ◌∙◌, subst, ap₂, arith}
+use Rattle.std.proofs.Common.{◌≡◌, ℕ, ◌*◌, ◌<◌, ◌≤◌, Bool, true, false, cond, ltb, List, [], ◌∷◌, length, Some, None, Err, Option, Result, sym, refl, ap, ◌∙◌, subst, ap₂, arith}
 use Rattle.std.proofs.lemmas.Bool.{le-ltb, lt-ltb}
 use Rattle.std.proofs.lemmas.Bool.Decides.{nat_tests}
+use Rattle.std.proofs.Math.Nat.{mul-le-mul}
 use Rattle.schemes.specs.Laws.{InRange, Lawful}
 use Rattle.schemes.specs.Meaning.{Meaning}
 use Rattle.schemes.specs.Strips.{strip_size}
+use Rattle.schemes.proofs.StripFacts.{strip_squares_are}
 use Rattle.maker.specs.Films.{films_size}
 use Rattle.lightbox.specs.Laying.{stacked}
 use Rattle.lightbox.specs.Reading.{early_checks, early_refusal, Reading}
@@ -23,12 +25,22 @@ use Rattle.readback.proofs.Runs.{glass_length, readable_read, reads_back}
 early_glass : (s : Meaning) (set w glass_bytes out_bytes : ℕ) → early_refusal s set w glass_bytes out_bytes ≡ None → glass_bytes ≡ strip_size s.m w
 early_glass s set w glass_bytes out_bytes e = grind (arith, nat_tests)
 
+-- a glass that is not refused then has a byte
+pub early_some : (s : Meaning) → InRange s → (set w glass_bytes out_bytes : ℕ) → None ≡ early_refusal s set w glass_bytes out_bytes → 0 < glass_bytes
+early_some s range set w glass_bytes out_bytes e =
+    let size = early_glass s set w glass_bytes out_bytes (sym e) in
+    let wide : 1 ≤ w = grind (arith, nat_tests) in
+    let squares : 1 * 1 ≤ w * s.m = mul-le-mul wide range.some_column in
+    omega (arith, strip_squares_are s.m w)
+
 module _ (s : Meaning) (range : InRange s) (lawful : Lawful s) (set w : ℕ) (films glass out : List ℕ) where
   -- all that is promised of a call
-  pub record Done (r : Result Unit ReadBackRefusal) (glass' row : List ℕ) : Type 0 where
-    pub reads : LaidAndRead s set w films glass out r glass' row
-    pub restores : Restores s set w films glass out r row
-    pub whole_runs : ReadsBack s w
+  abbrev pub Done : Result Unit ReadBackRefusal → (glass' row : List ℕ) → Type 0
+  Done r glass' row = record {
+    reads : LaidAndRead s set w films glass out r glass' row;
+    restores : Restores s set w films glass out r row;
+    whole_runs : ReadsBack s w;
+  }
 
   abbrev early : Option ReadRefusal
   early = early_refusal s set w (length glass) (length out)

@@ -1,6 +1,6 @@
 -- The first refusal of a list of checks that is passed on and goes on with others. For `read_back`.
 use Rattle.std.proofs.Common.{◌≡◌, ℕ, Bool, true, false, cond, List, [], ◌∷◌, ◌++◌, map, Some, None, Option, refl, arith}
-use Rattle.lightbox.specs.Refusals.{first_refusal}
+use Rattle.schemes.specs.Refusals.{first_refusal}
 
 module _ {A B : Type 0} (f : A → B) where
   abbrev passed : Bool × A → Bool × B

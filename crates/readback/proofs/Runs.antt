@@ -1,6 +1,7 @@
 -- What the maker's films show to a set, the light box reads: the law of whole runs, `ReadsBack`.
-use Rattle.std.proofs.Common.{◌≡◌, ℕ, ◌<◌, ◌≤◌, List, [], ◌∷◌, length, None, Ok, Result, refl, subst}
-use Rattle.std.specs.List.{AllByRecursion}
+use Rattle.std.proofs.Common.{◌≡◌, ℕ, ◌<◌, ◌≤◌, List, [], ◌∷◌, length, None, Ok, Result, refl, subst, arith}
+use Rattle.std.specs.List.{All}
+use Rattle.std.proofs.lemmas.List.Elements.{All-nil, All-cons}
 use Rattle.schemes.specs.Laws.{InRange, Lawful}
 use Rattle.schemes.specs.Meaning.{Meaning, blacks}
 use Rattle.schemes.specs.Strips.{strip_size, stack_bit, blacks_over, pixel}
@@ -8,7 +9,7 @@ use Rattle.schemes.specs.declared.colour.Colour.{Colour}
 use Rattle.schemes.specs.declared.colour.Colour.TheVariants.{White, Black}
 use Rattle.maker.specs.Films.{films_size}
 use Rattle.maker.specs.Law.{Readable}
-use Rattle.maker.specs.Runs.{State, fresh, Call, row, spoil, tally, row_refusal, outcome, transcript}
+use Rattle.maker.specs.Runs.{State, fresh, Call, Event, row, spoil, tally, row_refusal, outcome, transcript}
 use Rattle.maker.proofs.Showing.{run_shown}
 use Rattle.lightbox.specs.Laying.{stacked, StripsOf}
 use Rattle.lightbox.specs.Reading.{early_refusal, Reading, Shows, cleared}
@@ -57,17 +58,23 @@ module _ (s : Meaning) (range : InRange s) (lawful : Lawful s) (w h : ℕ) where
   call_read_back : (st : State) (call : Call) → ReadBackFrom s w call (outcome s w h st call)
   call_read_back st (row secret out work) = λ made a set among qualified strips of read long.
       let films = (outcome s w h st (row secret out work)).out in
+      let event : Event = record { call = row secret out work; outcome = outcome s w h st (row secret out work) } in
       let fits = accepted s w h st secret out work (row_refusal s w h st.made (length secret) (length out) (length work)) refl made a in
-      let readable = (run_shown s w h lawful st (row secret out work ∷ [])).0 made a set among qualified in
+      let readable = run_shown s w h lawful st (row secret out work ∷ []) 0 event (omega arith) made a set among qualified in
       let glass-long = glass_length s w set films secret readable fits.all_strips strips of in
       reads_row s w set films secret readable fits.all_strips strips of range lawful read
       (not_refused_early s set w (length (stacked (strip_size s.m w) strips)) (length read) fits.some_pixel fits.few_pixels fits.few_squares qualified glass-long long)
   call_read_back st spoil = tt
   call_read_back st tally = tt
 
-  run_read_back : (st : State) (calls : List Call) → AllByRecursion (λ e. ReadBackFrom s w e.call e.outcome) (transcript s w h st calls)
-  run_read_back st [] = tt
-  run_read_back st (call ∷ calls) = (call_read_back st call, run_read_back (outcome s w h st call).left calls)
+  abbrev IsReadBack : Event → Type 0
+  IsReadBack e = ReadBackFrom s w e.call e.outcome
+
+  run_read_back : (st : State) (calls : List Call) → All IsReadBack (transcript s w h st calls)
+  run_read_back st [] = All-nil IsReadBack
+  run_read_back st (call ∷ calls) =
+      All-cons IsReadBack (record { call = call; outcome = outcome s w h st call }) (transcript s w h (outcome s w h st call).left calls)
+      (call_read_back st call) (run_read_back (outcome s w h st call).left calls)
 
 pub reads_back : (s : Meaning) → InRange s → Lawful s → (w : ℕ) → ReadsBack s w
 reads_back s range lawful w h calls tape = run_read_back s range lawful w h (fresh tape) calls

@@ -1,6 +1,5 @@
 -- The law that ties the maker to the light box: what was made can be read back.
-use Rattle.std.specs.Prelude.{◌≡◌, ℕ, true, List, length, Ok, Result}
-use Rattle.std.specs.List.{AllByRecursion}
+use Rattle.std.specs.Prelude.{◌≡◌, ℕ, true, List, All, length, Ok, Result}
 use Rattle.schemes.specs.Keyholders.{Among}
 use Rattle.schemes.specs.Meaning.{Meaning}
 use Rattle.schemes.specs.PackedRows.{bytes_for}
@@ -32,4 +31,4 @@ ReadBackFrom s w tally o = Unit {0}
 abbrev pub ReadsBack : Meaning → (w : ℕ) → Type 0
 ReadsBack s w =
     (h : ℕ) (calls : List Call) (tape : List ℕ) →
-    AllByRecursion (λ e. ReadBackFrom s w e.call e.outcome) (transcript s w h (fresh tape) calls)
+    All (λ e. ReadBackFrom s w e.call e.outcome) (transcript s w h (fresh tape) calls)

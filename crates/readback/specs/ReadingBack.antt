@@ -7,7 +7,7 @@ use Rattle.maker.specs.Films.{films_size}
 use Rattle.maker.specs.Law.{Readable}
 use Rattle.lightbox.specs.Laying.{stacked}
 use Rattle.lightbox.specs.Reading.{early_checks, Reading, cleared}
-use Rattle.lightbox.specs.Refusals.{first_refusal}
+use Rattle.schemes.specs.Refusals.{first_refusal}
 use Rattle.lightbox.specs.declared.refusals.LayRefusal.{LayRefusal}
 use Rattle.lightbox.specs.declared.refusals.LayRefusal.TheVariants.{Lengths}
 use Rattle.lightbox.specs.declared.refusals.ReadRefusal.{ReadRefusal}

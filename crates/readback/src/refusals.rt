@@ -16,7 +16,7 @@ pub enum ReadBackRefusal {
 }
 
 impl ReadBackRefusal {
-    // The refusal's number.
+    // The refusal's number. By a match, since the variants hold the refusals that have it.
     pub fn number(self) -> u8
         ensures { result ≡ read_back_number self }
     {

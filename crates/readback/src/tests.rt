@@ -23,16 +23,16 @@ fn reads_a_row_back(rt: HostRuntime) -> Result<(), Fail> {
 
 // Calls with all of 2: a width, and how many bytes of white films there are; then the number and the place of the refusal, and
 // what the glass and the output hold, which are 255 before. Films that are white have no black square over pixel 0, too few.
-const REFUSED: [(u32, usize, u8, Option<u32>, u8); 3] = [
-    (0, 1, 17, None, 255),
-    (2, 1, 28, None, 255),
-    (2, 2, 32, Some(0), 0),
+const REFUSED: [(u32, usize, (u8, Option<u32>), u8); 3] = [
+    (0, 1, (17, None), 255),
+    (2, 1, (28, None), 255),
+    (2, 2, (32, Some(0)), 0),
 ];
 
 #[test]
 fn refuses(rt: HostRuntime) -> Result<(), Fail> {
     let both = KeyholderSet::from_bits(3);
-    for (w, length, number, place, held) in REFUSED {
+    for (w, length, refusal, held) in REFUSED {
         let films = [0, 0];
         let mut glass = [255];
         let mut out = [255];
@@ -44,11 +44,8 @@ fn refuses(rt: HostRuntime) -> Result<(), Fail> {
             &mut glass,
             &mut out,
         );
-        let (said, at) = match answer {
-            Ok(()) => (0, None),
-            Err(why) => (why.number(), why.place()),
-        };
-        assert_eq!(rt; (said, at), (number, place));
+        let said = answer.err().map(|why| (why.number(), why.place()));
+        assert_eq!(rt; said, Some(refusal));
         assert_eq!(rt; (glass[0], out[0]), (held, held));
     }
     Ok(())

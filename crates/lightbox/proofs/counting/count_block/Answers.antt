@@ -1,21 +1,10 @@
-use Rattle.std.proofs.Common.{ℕ, Bool, ap, ◌∙◌, rules}
+use Rattle.std.proofs.Common.{rules}
 use Rattle.schemes.specs.PackedRows.{bit_at}
 use Rattle.schemes.specs.Strips.{square_bit}
-use Rattle.schemes.specs.TestFacts.{count_le, count_found, count_passed}
+use Rattle.schemes.proofs.RangeFacts.{count_from_zero}
 use Rattle.lightbox.proofs.counting.count_block.Goals as goal
-use Rattle.lightbox.proofs.counting.count_block.Goals.{then-bit_at, else-bit_at}
 
-pub overflow_add-total : goal.overflow_add-total
-overflow_add-total c =
-    let test : ℕ → Bool = λ p. bit_at c.args.glass.now (square_bit c.args.columns c.args.pixel p) in
-    let h = count_le c.loop-square.square test in
-    search rules
-
-pub loop-square-preserved : goal.loop-square-preserved
-loop-square-preserved c =
-    let test : ℕ → Bool = λ p. bit_at c.args.glass.now (square_bit c.args.columns c.args.pixel p) in
-    let there = ap (bit_at c.args.glass.now) c.square_bit.ensures in
-    elim c.if-bit_at.branch [
-      | then-bit_at w ↦ count_found c.loop-square.square test c.loop-square.total c.if-bit_at.total c.loop-square.invariant w.total-is (w.if-bit_at.ensures ∙ there)
-      | else-bit_at w ↦ count_passed c.loop-square.square test c.loop-square.total c.if-bit_at.total c.loop-square.invariant w.total-is (w.if-bit_at.ensures ∙ there)
-    ]
+pub returns : goal.returns
+returns c =
+    count_from_zero _ _ (λ p. bit_at c.args.glass.now (square_bit c.args.columns c.args.pixel p)) (λ x b f' k. search rules)
+    c.filter.result _ c.args.columns c.count.result (search rules) (search rules) c.count.ensures.runs c.filter.ensures.runs

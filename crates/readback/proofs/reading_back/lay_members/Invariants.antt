@@ -1,7 +1,10 @@
-use Rattle.std.proofs.Common.{◌≡◌}
-use Rattle.lightbox.specs.Laying.{stacked}
-use Rattle.readback.specs.ReadingBack.{member_strips}
+use Rattle.std.proofs.Common.{◌≡◌, ◌+◌, false, length}
+use Rattle.readback.proofs.MemberStrips.{LaidSoFar}
 use Rattle.readback.proofs.reading_back.lay_members.Given as goal
 
-abbrev pub invariant-loop-k : goal.invariant-loop-k
-invariant-loop-k l = l.glass ≡ stacked l.size (member_strips l.k l.size l.set.bits l.films)
+abbrev pub invariant-loop-keyholder : goal.invariant-loop-keyholder
+invariant-loop-keyholder l = record {
+  so_far : LaidSoFar l.size l.set.bits l.films (length l.yielded) l.glass l.keyholder-iterator.b.rest.now;
+  piece : l.keyholder-iterator.b.size ≡ l.size;
+  next : l.keyholder-iterator.a.exhausted ≡ false → l.keyholder-iterator.a.start ≡ length l.yielded + 1;
+}

@@ -1,9 +1,0 @@
-use Rattle.std.proofs.Common.{rules}
-use Rattle.lightbox.proofs.ReadingFacts.{one_reading, reads_what_shows}
-use Rattle.lightbox.proofs.reading.read.Goals as goal
-
-pub returns-in_err-light : goal.returns-in_err-light
-returns-in_err-light g c = record { reads = search rules; determined = one_reading; restores = reads_what_shows }
-
-pub returns : goal.returns
-returns g c = record { reads = search rules; determined = one_reading; restores = reads_what_shows }
