@@ -1,22 +1,20 @@
 -- A row is filled pixel by pixel: how far the orders are drawn, and which bits of the strips are set. For `fill_pixels`.
-use Rattle.std.proofs.Common.{◌≡◌, ℕ, zero, suc, ◌+◌, ◌-◌, ◌*◌, ◌/◌, ◌%◌, ◌<◌, ◌≤◌, Bool, true, false, cond, ◌&&◌, ◌||◌, ltb, leb, ◌⊎◌, List, [], ◌∷◌, ◌++◌, length, get_or, take, drop, replicate, sym, refl, ap, ◌∙◌, subst, ap₂, inl, inr, mul-le-mul_right, arith}
-use Rattle.std.specs.List.{range_with_len, flat_map, AllByRecursion}
+use Rattle.std.proofs.Common.{◌≡◌, ℕ, zero, suc, ◌+◌, ◌-◌, ◌*◌, ◌/◌, ◌%◌, ◌<◌, ◌≤◌, Bool, true, false, cond, ◌&&◌, ◌||◌, ltb, leb, ◌⊎◌, List, [], ◌∷◌, ◌++◌, length, get_or, take, drop, replicate, sym, refl, ap, ◌∙◌, ap₂, inl, inr, mul-le-mul_right, arith}
+use Rattle.std.specs.List.{range_with_len, flat_map, All}
 use Rattle.std.proofs.lemmas.List.{append_assoc, append-nil, get_or_append_left, get_or_push, get_or_past, get_or-take, get_or-drop, length_push, take-append-drop, length-take, length-take-le, length-drop, drop-drop, nil_from_length}
-use Rattle.std.proofs.ByRecursion.{All-get_or}
 use Rattle.std.proofs.lemmas.Bool.{cases_lt, lt-ltb, le-ltb, le-leb, lt-leb, and_left, and_right}
 use Rattle.std.proofs.lemmas.Nat.{div-mul-add, mod-mul-add, div_below}
 use Rattle.schemes.specs.Bits.{bit}
 use Rattle.schemes.specs.Meaning.{Meaning}
 use Rattle.schemes.specs.PackedRows.{bit_at, packed}
-use Rattle.schemes.specs.Strips.{most_squares, strip_squares, pixel_at, square_at, strip_size, colour_of, pixel}
-use Rattle.schemes.specs.declared.colour.Colour.TheVariants.{White, Black}
+use Rattle.schemes.specs.Strips.{strip_squares, pixel_at, square_at, strip_size, colour_of, pixel}
 use Rattle.schemes.specs.BitFacts.{bit_of_0, bit_number_of}
 use Rattle.schemes.proofs.PackedFacts.{packed_from_bits}
 use Rattle.schemes.proofs.StripFacts.{strip_squares_are}
 use Rattle.tapes.specs.Drawing.{Drawn, short, drawn, onward}
 use Rattle.tapes.specs.Orders.{order, orders}
 use Rattle.maker.specs.Films.{film_square}
-use Rattle.maker.specs.Filling.{film_bit, AllBytes, Blackened, block, Table, Filled}
+use Rattle.maker.specs.Filling.{film_bit, AllBytes, Blackened, block, Table, Tabled, Filled}
 use Rattle.maker.proofs.Squares.{or_none, film_bit_is}
 
 -- ---- the orders that are drawn
@@ -97,9 +95,9 @@ get_or_zeros zero i = refl
 get_or_zeros (suc n) zero = refl
 get_or_zeros (suc n) (suc i) = get_or_zeros n i
 
-pub table_of : (s : Meaning) (is_black : Bool) (white black : List ℕ) → Table s White white → Table s Black black → Table s (colour_of is_black) (cond is_black black white)
-table_of s true white black tw tb = tb
-table_of s false white black tw tb = tw
+pub table_of : (s : Meaning) (is_black : Bool) (white black : List ℕ) → Tabled s white black → Table s (colour_of is_black) (cond is_black black white)
+table_of s true white black tables = tables.black_cells
+table_of s false white black tables = tables.white_cells
 
 and_yes : {x y z : Bool} → x ≡ true → y ≡ z → y ≡ (x && z)
 and_yes {x} {y} {z} e d = d ∙ sym (ap (λ t. t && z) e)
@@ -111,19 +109,17 @@ module _ (s : Meaning) (w size : ℕ) (secret tape : List ℕ) where
   square os k b = film_square s (pixel secret) os (suc k) (pixel_at s.m b) (square_at s.m b)
 
   -- so many pixels are done
-  pub record Filling (x start : ℕ) (rest out : List ℕ) : Type 0 where
+  pub record Filling (x : ℕ) (rest out : List ℕ) : Type 0 where
     pub os : List (List ℕ)
     pub count : length os ≡ x
-    pub from : start ≡ x * s.m
     pub draws : Draws s.m w tape x os rest
     pub bytes : AllBytes out
     pub bits : (k b : ℕ) → k < s.n → b < 8 * size → film_bit size out k b ≡ (ltb b (x * s.m) && square os k b)
 
-  pub filling_none : (n : ℕ) → Filling 0 0 tape (replicate n 0)
+  pub filling_none : (n : ℕ) → Filling 0 tape (replicate n 0)
   filling_none n = record {
     os = [];
     count = refl;
-    from = omega arith;
     draws = draws_none s.m w tape;
     bytes = λ j. omega (arith, get_or_zeros n j);
     bits = λ k b lk lb.
@@ -132,7 +128,7 @@ module _ (s : Meaning) (w size : ℕ) (secret tape : List ℕ) where
         ∙ sym (and_left (ltb b (0 * s.m)) _ (le-ltb b (0 * s.m) (omega arith)));
   }
 
-  module _ (x : ℕ) (table o : List ℕ) (known : Table s (pixel secret x) table) (long : length o ≡ s.m) (within : AllByRecursion (λ j. j < s.m) o)
+  module _ (x : ℕ) (table o : List ℕ) (known : Table s (pixel secret x) table) (long : length o ≡ s.m) (within : All (λ j. j < s.m) o)
       (os : List (List ℕ)) (count : length os ≡ x) (pos : 0 < s.m) where
     more_bits : (old : Bool) (k b : ℕ) → k < s.n → old ≡ (ltb b (x * s.m) && square os k b) →
         (old || block table o (x * s.m) s.m k b) ≡ (ltb b ((x + 1) * s.m) && square (os ++ o ∷ []) k b)
@@ -154,7 +150,7 @@ module _ (s : Meaning) (w size : ℕ) (secret tape : List ℕ) where
             let pix : b / s.m ≡ x = ap (λ y. y / s.m) whole ∙ div-mul-add x s.m p lp in
             let sq : b % s.m ≡ p = ap (λ y. y % s.m) whole ∙ mod-mul-add x s.m p lp in
             let j = get_or o p 0 in
-            let lj : j < s.m = All-get_or (λ i. i < s.m) o p 0 (omega arith) within in
+            let lj : j < s.m = within p 0 (omega arith) in
             let nothing : old ≡ false = e ∙ and_left (ltb b (x * s.m)) _ (le-ltb b (x * s.m) now) in
             let inside : (leb (x * s.m) b && ltb b (x * s.m + s.m)) ≡ true = ap₂ (λ t u. t && u) (le-leb (x * s.m) b now) (lt-ltb b (x * s.m + s.m) (omega arith)) in
             let cell : bit (get_or table j 0) k ≡ s.cell (pixel secret x) (suc k) j = ap (λ y. bit y k) (known.cells j lj) ∙ bit_number_of s.n (λ i. s.cell (pixel secret x) (suc i) j) k lk in
@@ -168,26 +164,24 @@ module _ (s : Meaning) (w size : ℕ) (secret tape : List ℕ) where
             ∙ e ∙ and_left (ltb b (x * s.m)) _ (le-ltb b (x * s.m) now)
             ∙ sym (and_left (ltb b ((x + 1) * s.m)) _ (le-ltb b ((x + 1) * s.m) past))
 
-  filling_more : (x start : ℕ) (rest out o rest' out' table : List ℕ) → Filling x start rest out → x < w → 0 < s.m →
-      order s.m rest ≡ drawn o rest' → AllByRecursion (λ j. j < s.m) o → length o ≡ s.m → Table s (pixel secret x) table →
-      Blackened s.n size out out' (block table o start (length o)) → Filling (x + 1) (start + s.m) rest' out'
-  filling_more x start rest out o rest' out' table h l pos e within long known put = record {
+  filling_more : (x : ℕ) (rest out o rest' out' table : List ℕ) → Filling x rest out → x < w → 0 < s.m →
+      order s.m rest ≡ drawn o rest' → All (λ j. j < s.m) o → length o ≡ s.m → Table s (pixel secret x) table →
+      Blackened s.n size out out' (block table o (x * s.m) s.m) → Filling (x + 1) rest' out'
+  filling_more x rest out o rest' out' table h l pos e within long known put = record {
     os = h.os ++ o ∷ [];
     count = length_push h.os o ∙ ap (λ k. k + 1) h.count;
-    from = omega (arith, h.from);
     draws = draws_more s.m w tape x h.os rest o rest' l h.draws e;
     bytes = put.bytes h.bytes;
     bits = λ k b lk lb.
         put.bits k b lk lb
-        ∙ ap₂ (λ from count. film_bit size out k b || block table o from count k b) h.from long
         ∙ more_bits x table o known long within h.os h.count pos (film_bit size out k b) k b lk (h.bits k b lk lb);
   }
 
-  pub filling_short : (x start : ℕ) (rest out : List ℕ) → Filling x start rest out → x < w → order s.m rest ≡ short → orders s.m w tape ≡ short
-  filling_short x start rest out h l e = draws_short s.m w tape x h.os rest l h.draws e
+  pub filling_short : (x : ℕ) (rest out : List ℕ) → Filling x rest out → x < w → order s.m rest ≡ short → orders s.m w tape ≡ short
+  filling_short x rest out h l e = draws_short s.m w tape x h.os rest l h.draws e
 
-  pub filling_all : (x start : ℕ) (rest out : List ℕ) → Filling x start rest out → x ≡ w → size ≡ strip_size s.m w → length out ≡ s.n * size → Filled s w secret tape rest out
-  filling_all x start rest out h e fits long =
+  pub filling_all : (x : ℕ) (rest out : List ℕ) → Filling x rest out → x ≡ w → size ≡ strip_size s.m w → length out ≡ s.n * size → Filled s w secret tape rest out
+  filling_all x rest out h e fits long =
       let bits : ℕ → ℕ → Bool = λ i b. ltb b (strip_squares s.m w) && film_square s (pixel secret) h.os i (pixel_at s.m b) (square_at s.m b) in
       let whole : x * s.m ≡ strip_squares s.m w = ap (λ y. y * s.m) e ∙ sym (strip_squares_are s.m w) in
       record {
@@ -202,26 +196,16 @@ module _ (s : Meaning) (w size : ℕ) (secret tape : List ℕ) where
             ∙ ap (λ z. flat_map (λ i. packed z (bits i)) (range_with_len 1 s.n)) fits;
       }
 
-  -- the same, as the code has it: lengths for the numbers of columns, and a table selected by the pixel
-  pub filling_on : (x start step len n : ℕ) (rest out o rest' out' white black table : List ℕ) (is_black : Bool) →
-      step ≡ s.m → len ≡ s.m → n ≡ s.n → is_black ≡ bit_at secret x → Table s White white → Table s Black black → table ≡ cond is_black black white →
-      Filling x start rest out → x < w → 0 < s.m → order len rest ≡ drawn o rest' → AllByRecursion (λ j. j < len) o → length o ≡ len →
-      Blackened n size out out' (block table o start (length o)) → Filling (x + 1) (start + step) rest' out'
-  filling_on x start step len n rest out o rest' out' white black table is_black es el en ef tw tb et h l pos drew within long put =
-      let known : Table s (pixel secret x) table =
-      subst (Table s (pixel secret x)) (sym et) (subst (λ b. Table s (colour_of b) (cond is_black black white)) ef (table_of s is_black white black tw tb)) in
-      rw es (filling_more x start rest out o rest' out' table h l pos
-      (ap (λ k. order k rest) (sym el) ∙ drew) (subst (λ k. AllByRecursion (λ j. j < k) o) el within) (long ∙ el) known
-      (subst (λ k. Blackened k size out out' (block table o start (length o))) en put))
+  -- one more pixel, as the code has it: the length of the order for the number of columns, and the table that the pixel selects
+  pub filling_on : (x len n : ℕ) (rest out o rest' out' white black table : List ℕ) (is_black : Bool) →
+      len ≡ s.m → n ≡ s.n → is_black ≡ bit_at secret x → Tabled s white black → table ≡ cond is_black black white →
+      Filling x rest out → x < w → 0 < s.m → order len rest ≡ drawn o rest' → All (λ j. j < len) o → length o ≡ len →
+      Blackened n size out out' (block table o (x * length o) (length o)) → Filling (x + 1) rest' out'
+  filling_on x len n rest out o rest' out' white black table is_black el en ef tables et h l pos drew within long put =
+      let known : Table s (pixel secret x) table = rw (et, ← ef) (table_of s is_black white black tables) in
+      filling_more x rest out o rest' out' table h l pos (rw el at drew) (rw el at within) (long ∙ el) known (rw (long ∙ el, en) at put)
 
-pub block_within : (m w size x start : ℕ) → start ≡ x * m → x < w → size ≡ strip_size m w → start + m ≤ 8 * size
-block_within m w size x start e l f =
+pub block_within : (m w size x : ℕ) → x < w → size ≡ strip_size m w → x * m + m ≤ 8 * size
+block_within m w size x l f =
     let more : suc x * m ≤ w * m = mul-le-mul_right m l in
     omega (arith, strip_squares_are m w)
-
-pub size_few : (m w size : ℕ) → size ≡ strip_size m w → strip_squares m w ≤ most_squares → size ≤ 4096
-size_few m w size f l = omega arith
-
-pub below_wide : (m k : ℕ) (o : List ℕ) → m ≤ k → AllByRecursion (λ j. j < m) o → AllByRecursion (λ j. j < k) o
-below_wide m k [] l all = tt
-below_wide m k (x ∷ o) l all = (omega (arith, all.0), below_wide m k o l all.1)

@@ -10,5 +10,4 @@ pub mod Laws
 pub mod Squares
 pub mod Fillings
 pub mod BlockDrawing
-pub mod Outputs
 pub mod Playing

@@ -1,7 +1,8 @@
 -- Over each pixel of an accepted row, the stack of any set has as many black squares as the stack of its cells has black
 -- columns: the law's `Shows`.
 use Rattle.std.proofs.Common.{◌≡◌, ℕ, zero, suc, ◌+◌, ◌<◌, Bool, true, false, cond, ◌&&◌, List, [], ◌∷◌, ◌++◌, length, get_or, drop, Some, None, count_by, Option, sym, refl, ap, ◌∙◌, ap₂, zero-add, arith}
-use Rattle.std.specs.List.{range_with_len, AllByRecursion}
+use Rattle.std.specs.List.{range_with_len, All}
+use Rattle.std.proofs.lemmas.List.Elements.{All-nil, All-cons}
 use Rattle.schemes.specs.Bits.{count_below}
 use Rattle.schemes.specs.Keyholders.{member}
 use Rattle.schemes.specs.Laws.{Lawful}
@@ -15,7 +16,7 @@ use Rattle.tapes.proofs.Arrangements.{Arranged}
 use Rattle.tapes.proofs.Counts.{count_by_counting_more}
 use Rattle.tapes.proofs.Removals.{count_by_cons}
 use Rattle.maker.specs.Films.{films_size, strips_of, film_square}
-use Rattle.maker.specs.Runs.{State, Call, row, spoil, tally, refused, number, row_drawn, row_refusal, row_outcome, outcome, transcript}
+use Rattle.maker.specs.Runs.{State, Call, row, spoil, tally, refused, number, row_drawn, row_refusal, row_outcome, outcome, transcript, Event}
 use Rattle.maker.specs.Law.{Readable, ShownIn}
 use Rattle.maker.proofs.Shuffles.{unmoved}
 use Rattle.maker.proofs.Couplings.{Together}
@@ -99,6 +100,11 @@ module _ (s : Meaning) (w h : ℕ) (lawful : Lawful s) where
   call_shown st spoil = tt
   call_shown st tally = tt
 
-  pub run_shown : (st : State) (calls : List Call) → AllByRecursion (λ e. ShownIn s w e.call e.outcome) (transcript s w h st calls)
-  run_shown st [] = tt
-  run_shown st (call ∷ calls) = (call_shown st call, run_shown (outcome s w h st call).left calls)
+  abbrev IsShown : Event → Type 0
+  IsShown e = ShownIn s w e.call e.outcome
+
+  pub run_shown : (st : State) (calls : List Call) → All IsShown (transcript s w h st calls)
+  run_shown st [] = All-nil IsShown
+  run_shown st (call ∷ calls) =
+      All-cons IsShown (record { call = call; outcome = outcome s w h st call }) (transcript s w h (outcome s w h st call).left calls)
+      (call_shown st call) (run_shown (outcome s w h st call).left calls)

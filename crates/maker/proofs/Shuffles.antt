@@ -1,13 +1,17 @@
 -- Bijections of tapes that keep their length and their bytes, and the one that relabels a digit and goes on by it.
 use Rattle.std.proofs.Common.{◌≡◌, ℕ, suc, ◌+◌, ◌*◌, ◌/◌, ◌%◌, ◌<◌, cond, ltb, List, [], ◌∷◌, length, refl, ap, ◌∙◌, ap₂, arith}
-use Rattle.std.specs.List.{AllByRecursion}
+use Rattle.std.specs.List.{All}
+use Rattle.std.proofs.lemmas.List.Elements.{All-cons, All-head, All-tail}
 use Rattle.std.proofs.lemmas.Bool.{ltb-true, lt-ltb, cond-true, cond-false, cond_both}
 use Rattle.std.proofs.lemmas.Nat.{mul-add-lt, div-mul-add, mod-mul-add, div_below, mod_below, div-add-mod'}
 use Rattle.schemes.specs.Laws.{Renumbering}
 use Rattle.tapes.specs.Digits.{bound}
 
+abbrev is_byte : ℕ → Type 0
+is_byte x = x < 256
+
 abbrev pub Bytes : List ℕ → Type 0
-Bytes t = AllByRecursion (λ x. x < 256) t
+Bytes t = All is_byte t
 
 pub record Shuffle : Type 0 where
   pub to : List ℕ → List ℕ
@@ -64,8 +68,8 @@ module _ (b : ℕ) (f : ℕ → ℕ) (f-below : (d : ℕ) → d < suc b → f d 
     redrawn_bytes next-bytes [] h = h
     redrawn_bytes next-bytes (x ∷ t) h =
         cond_both (ltb x (bound (suc b))) _ _ Bytes
-        (λ e. (omega (arith, relabelled_kept x (ltb-true _ _ e)), next-bytes _ t h.1))
-        (λ _. (h.0, redrawn_bytes next-bytes t h.1))
+        (λ e. All-cons is_byte _ _ (omega (arith, relabelled_kept x (ltb-true _ _ e))) (next-bytes _ t (All-tail is_byte x t h)))
+        (λ _. All-cons is_byte _ _ (All-head is_byte x t h) (redrawn_bytes next-bytes t (All-tail is_byte x t h)))
 
     pub redrawn_back : (g : ℕ → ℕ) → ((d : ℕ) → d < suc b → g (f d) ≡ d) →
         (back : ℕ → List ℕ → List ℕ) → ((d : ℕ) (t : List ℕ) → d < suc b → back (f d) (next d t) ≡ t) →

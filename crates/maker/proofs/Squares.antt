@@ -1,5 +1,5 @@
--- One square after another is set on the strips of an output. For `set_square` and `set_block`.
-use Rattle.std.proofs.Common.{◌≡◌, ℕ, zero, suc, ◌+◌, ◌-◌, ◌*◌, ◌/◌, ◌%◌, ◌^◌, ◌<◌, ◌≤◌, Bool, true, false, ◌&&◌, ◌||◌, eqb, ltb, leb, ◌⊎◌, List, length, get_or, set, sym, refl, ap, ◌∙◌, ap₂, inl, inr, one-mul, zero-mul, arith}
+-- One square after another is set on the strips of an output. For `set_square`.
+use Rattle.std.proofs.Common.{◌≡◌, ℕ, zero, suc, ◌+◌, ◌-◌, ◌*◌, ◌/◌, ◌%◌, ◌^◌, ◌<◌, Bool, true, false, ◌&&◌, ◌||◌, eqb, ltb, ◌⊎◌, List, length, get_or, set, sym, refl, ap, ◌∙◌, ap₂, inl, inr, one-mul, zero-mul, arith}
 use lib.Bits.{bit_or}
 use Rattle.std.proofs.lemmas.List.{get_or-set_same, get_or-set_other, get_or-drop}
 use Rattle.std.proofs.lemmas.Bool.{cases_eq, eq-eqb, ne_eqb, lt-ltb, le-ltb, and_left, and_right}
@@ -8,7 +8,7 @@ use Rattle.std.proofs.lemmas.Nat.{or_lt, mul-add-lt, div-mul-add, mod_below, shl
 use Rattle.schemes.specs.Bits.{bit}
 use Rattle.schemes.specs.BitFacts.{bit_of_0, bit_pow, bit-or}
 use Rattle.schemes.specs.PackedRows.{bit_at}
-use Rattle.maker.specs.Filling.{film_bit, AllBytes, Blackened, one_square, block}
+use Rattle.maker.specs.Filling.{film_bit, AllBytes, Blackened, one_square}
 
 pub or_none : (x : Bool) {y : Bool} → y ≡ false → (x || y) ≡ x
 or_none true e = refl
@@ -93,83 +93,24 @@ bytes_set out i x within l all j = go (cases_eq j i)
     go (inl e) = omega (arith, ap (λ k. get_or (set out i (bit_or (get_or out i 0) x)) k 0) e, get_or-set_same out i (bit_or (get_or out i 0) x) 0 within, or_lt 8 (get_or out i 0) x (all i) l)
     go (inr ne) = omega (arith, get_or-set_other out i j (bit_or (get_or out i 0) x) 0 ne, all j)
 
+-- So many strips have the square, and one more gets it.
 module _ (n size at cells : ℕ) (before : List ℕ) where
-  -- so many strips have the square
-  pub record Setting (k place : ℕ) (out : List ℕ) : Type 0 where
-    pub here : place ≡ at / 8 + k * size
-    pub bytes : AllBytes before → AllBytes out
-    pub bits : (k' b : ℕ) → k' < n → b < 8 * size → film_bit size out k' b ≡ (film_bit size before k' b || (ltb k' k && one_square at cells k' b))
+  square_of : ℕ → ℕ → Bool
+  square_of b k = one_square at cells k b
 
-  pub setting_none : Setting 0 (at / 8) before
-  setting_none = record {
-    here = omega arith;
-    bytes = λ all. all;
-    bits = λ k' b _ _. sym (or_none (film_bit size before k' b) (and_left (ltb k' 0) _ (le-ltb k' 0 (omega arith))));
-  }
-
-  pub spot_within : at < 8 * size → (k place : ℕ) (out : List ℕ) → Setting k place out → k < n → length out ≡ n * size → place < length out
-  spot_within inside k place out h l long = omega (arith, h.here, mul-add-lt k size (at / 8) n l (omega arith))
-
-  pub setting_more : at < 8 * size → (k place : ℕ) (out : List ℕ) → Setting k place out → k < n → length out ≡ n * size →
-      Setting (k + 1) (place + size) (set out place (bit_or (get_or out place 0) (cells / 2 ^ k % 2 * 2 ^ (7 - at % 8) % 256)))
-  unfolding bit
-  setting_more inside k place out h l long =
+  pub strip_more : at < 8 * size → (k : ℕ) (out : List ℕ) → Blackened n size before out (λ k' b. ltb k' k && one_square at cells k' b) → k < n → length out ≡ n * size →
+      Blackened n size before (set out (k * size + at / 8) (bit_or (get_or out (k * size + at / 8) 0) (cells / 2 ^ k % 2 * 2 ^ (7 - at % 8) % 256))) (λ k' b. ltb k' (k + 1) && one_square at cells k' b)
+  unfolding bit square_of
+  strip_more inside k out h l long =
       let v = cells / 2 ^ k % 2 in
       let small : v < 2 = mod_below (cells / 2 ^ k) 2 (omega arith) in
       let value : v * 2 ^ (7 - at % 8) % 256 ≡ v * 2 ^ (7 - at % 8) = shl_whole v 1 (7 - at % 8) 8 small (omega arith) in
-      let spot' : place ≡ k * size + at / 8 = omega (arith, h.here) in
-      let within : k * size + at / 8 < length out = omega (arith, spot_within inside k place out h l long) in
+      let within : k * size + at / 8 < length out = omega (arith, long, mul-add-lt k size (at / 8) n l (omega arith)) in
       record {
-        here = omega (arith, h.here);
-        bytes = λ all. bytes_set out place _ (spot_within inside k place out h l long) (mod_below (v * 2 ^ (7 - at % 8)) 256 (omega arith)) (h.bytes all);
+        bytes = λ all. bytes_set out (k * size + at / 8) _ within (mod_below (v * 2 ^ (7 - at % 8)) 256 (omega arith)) (h.bytes all);
         bits = λ k' b lk lb.
-            ap (λ x. film_bit size (set out place (bit_or (get_or out place 0) x)) k' b) value
-            ∙ ap (λ j. film_bit size (set out j (bit_or (get_or out j 0) (v * 2 ^ (7 - at % 8)))) k' b) spot'
+            ap (λ x. film_bit size (set out (k * size + at / 8) (bit_or (get_or out (k * size + at / 8) 0) x)) k' b) value
             ∙ square_set out size k at v within inside small k' b lb
             ∙ ap (λ x. x || (eqb k' k && (eqb b at && eqb v 1))) (h.bits k' b lk lb)
             ∙ merge_strip (film_bit size before k' b) (square_of b) k' k;
       }
-    where
-      square_of : ℕ → ℕ → Bool
-      square_of b k'' = one_square at cells k'' b
-
-  pub setting_all : (k place : ℕ) (out : List ℕ) → Setting k place out → n ≤ k → Blackened n size before out (one_square at cells)
-  setting_all k place out h l = record {
-    bytes = h.bytes;
-    bits = λ k' b lk lb. h.bits k' b lk lb ∙ ap (λ t. film_bit size before k' b || t) (and_both (lt-ltb k' k (omega arith)));
-  }
-
--- one more square of a block
-merge_square : (x : Bool) (g : ℕ → Bool) (start b p : ℕ) →
-    ((x || ((leb start b && ltb b (start + p)) && g (b - start))) || (eqb b (start + p) && g p)) ≡ (x || ((leb start b && ltb b (start + (p + 1))) && g (b - start)))
-merge_square x g start b p = go (cases_eq b (start + p))
-  where
-    go : (b ≡ start + p) ⊎ (b ≡ start + p → ⊥) →
-        ((x || ((leb start b && ltb b (start + p)) && g (b - start))) || (eqb b (start + p) && g p)) ≡ (x || ((leb start b && ltb b (start + (p + 1))) && g (b - start)))
-    go (inl e) =
-        let now : (leb start b && ltb b (start + (p + 1))) ≡ true = grind (arith, nat_tests) in
-        let before : (leb start b && ltb b (start + p)) ≡ false = grind (arith, nat_tests) in
-        or_either x (and_left (leb start b && ltb b (start + p)) _ before)
-        (and_both (eq-eqb b (start + p) e) ∙ ap g (omega arith) ∙ sym (and_both now))
-    go (inr ne) =
-        let same : (leb start b && ltb b (start + p)) ≡ (leb start b && ltb b (start + (p + 1))) = grind (arith, nat_tests) in
-        or_kept x (and_left (eqb b (start + p)) _ (ne_eqb b (start + p) ne)) (ap (λ t. t && g (b - start)) same)
-
-module _ (table order : List ℕ) (n size start : ℕ) (before : List ℕ) where
-  pub block_none : Blackened n size before before (block table order start 0)
-  block_none = record {
-    bytes = λ all. all;
-    bits = λ k b _ _.
-        let none : (leb start b && ltb b (start + 0)) ≡ false = grind (arith, nat_tests) in
-        sym (or_none (film_bit size before k b) (and_left (leb start b && ltb b (start + 0)) _ none));
-  }
-
-  pub block_more : (p : ℕ) (out out' : List ℕ) → Blackened n size before out (block table order start p) →
-      Blackened n size out out' (one_square (start + p) (get_or table (get_or order p 0) 0)) → Blackened n size before out' (block table order start (p + 1))
-  block_more p out out' h s = record {
-    bytes = λ all. s.bytes (h.bytes all);
-    bits = λ k b lk lb.
-        s.bits k b lk lb
-        ∙ ap (λ x. x || one_square (start + p) (get_or table (get_or order p 0) 0) k b) (h.bits k b lk lb)
-        ∙ merge_square (film_bit size before k b) (λ i. bit (get_or table (get_or order i 0) 0) k) start b p;
-  }

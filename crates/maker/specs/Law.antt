@@ -1,7 +1,7 @@
 -- The law of whole runs: a run conceals the secret rows from every set of keyholders that is not qualified, and shows them
 -- to every set that is.
 use Rattle.std.specs.Prelude.{◌≡◌, ℕ, ◌<◌, ◌≤◌, true, false, List, length}
-use Rattle.std.specs.List.{AllZip, AllByRecursion}
+use Rattle.std.specs.List.{All, AllZip}
 use Rattle.schemes.specs.Keyholders.{member, Among}
 use Rattle.schemes.specs.Meaning.{Meaning, light, dark}
 use Rattle.schemes.specs.Strips.{strip_size, strip_in, stack_bit, blacks_over, pixel}
@@ -13,7 +13,7 @@ use Rattle.maker.specs.Runs.{State, fresh, Call, row, spoil, tally, number, Outc
 -- A tape on which so many bytes wait.
 pub record TapeOf (size : ℕ) (tape : List ℕ) : Type 0 where
   pub long : length tape ≡ size
-  pub bytes : AllByRecursion (λ b. b < 256) tape
+  pub bytes : All (λ b. b < 256) tape
 
 -- A bijection of the tapes of so many bytes onto themselves, with its inverse.
 pub record Pairing (size : ℕ) : Type 0 where
@@ -77,4 +77,4 @@ ShownIn s w spoil o = Unit {0}
 ShownIn s w tally o = Unit {0}
 
 abbrev pub Shows : Meaning → (w h : ℕ) → Type 0
-Shows s w h = (calls : List Call) (tape : List ℕ) → AllByRecursion (λ e. ShownIn s w e.call e.outcome) (transcript s w h (fresh tape) calls)
+Shows s w h = (calls : List Call) (tape : List ℕ) → All (λ e. ShownIn s w e.call e.outcome) (transcript s w h (fresh tape) calls)

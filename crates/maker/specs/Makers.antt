@@ -3,7 +3,8 @@ use Rattle.std.specs.Prelude.{◌≡◌, ℕ, List, None, Ok, Err, Result}
 use Rattle.schemes.specs.Meaning.{Meaning}
 use Rattle.maker.specs.declared.maker.Maker.{Maker}
 use Rattle.maker.specs.declared.runs.Closed.{Closed}
-use Rattle.maker.specs.Runs.{State, Answer, closed, number, refused, Call, Outcome, outcome, row_outcome}
+use Rattle.maker.specs.declared.runs.Tally.{Tally}
+use Rattle.maker.specs.Runs.{State, Answer, tallied, closed, number, refused, Call, Outcome, outcome, row_outcome}
 
 -- Of a scheme its meaning counts, and of a tape the bytes that wait.
 module _ {S T : Type 0} (means : S → Meaning) (bytes : T → List ℕ) where
@@ -30,5 +31,8 @@ abbrev pub Answers : {E : Type 0} → (E → ℕ) → Result ℕ E → Answer �
 Answers number_of (Ok n) a = a ≡ number n
 Answers number_of (Err why) a = a ≡ refused (number_of why)
 
+abbrev pub tally_answer : Tally → Answer
+tally_answer t = tallied t.made t.spoiled t.taken
+
 abbrev pub answer_of : Closed → Answer
-answer_of c = closed c.made c.spoiled c.taken c.is_full
+answer_of c = closed c.tally.made c.tally.spoiled c.tally.taken c.is_full

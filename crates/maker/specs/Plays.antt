@@ -7,8 +7,8 @@ use Rattle.maker.specs.declared.plays.Reply.{Reply}
 use Rattle.maker.specs.declared.plays.Reply.TheVariants as reply
 use Rattle.maker.specs.declared.runs.Closed.{Closed}
 use Rattle.maker.specs.Refusals.{row_number, spoil_number}
-use Rattle.maker.specs.Runs.{Call, row, spoil, tally, tallied, Event, Outcome, fresh, transcript, state_after, close_answer}
-use Rattle.maker.specs.Makers.{Answers, answer_of}
+use Rattle.maker.specs.Runs.{Call, row, spoil, tally, Event, Outcome, fresh, transcript, state_after, close_answer}
+use Rattle.maker.specs.Makers.{Answers, tally_answer, answer_of}
 
 -- The call, with what its buffers hold.
 abbrev pub call_of : Call-made → Call
@@ -21,13 +21,13 @@ abbrev pub ReplyTo : Call → Outcome → Reply → Type 0
 ReplyTo (row secret out work) o (reply.Row answer secret' out' work') =
     Answers row_number answer o.answer × (vec_items secret' ≡ secret) × (vec_items out' ≡ o.out) × (vec_items work' ≡ o.work)
 ReplyTo (row _ _ _) o (reply.Spoil _) = ⊥
-ReplyTo (row _ _ _) o (reply.Tally _ _ _) = ⊥
+ReplyTo (row _ _ _) o (reply.Tally _) = ⊥
 ReplyTo spoil o (reply.Row _ _ _ _) = ⊥
 ReplyTo spoil o (reply.Spoil answer) = Answers spoil_number answer o.answer
-ReplyTo spoil o (reply.Tally _ _ _) = ⊥
+ReplyTo spoil o (reply.Tally _) = ⊥
 ReplyTo tally o (reply.Row _ _ _ _) = ⊥
 ReplyTo tally o (reply.Spoil _) = ⊥
-ReplyTo tally o (reply.Tally rows spoiled taken) = tallied rows spoiled taken ≡ o.answer
+ReplyTo tally o (reply.Tally counts) = tally_answer counts ≡ o.answer
 
 -- One reply to each call.
 abbrev pub Replies : List Event → List Reply → Type 0

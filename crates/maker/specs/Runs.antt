@@ -1,7 +1,8 @@
 -- A run: what each call answers, what it leaves in the buffers that it was handed, and the state that it leaves.
-use Rattle.std.specs.Prelude.{ℕ, ◌+◌, ◌-◌, Bool, cond, not, ◌&&◌, ◌||◌, List, [], ◌∷◌, ◌++◌, length, drop, replicate, is_some, Some, None, Option, ◌==◌, nat_lt}
+use Rattle.std.specs.Prelude.{ℕ, ◌+◌, ◌-◌, Bool, not, ◌&&◌, ◌||◌, List, [], ◌∷◌, ◌++◌, length, drop, replicate, is_some, Some, None, Option, ◌==◌, nat_lt}
 use Rattle.schemes.specs.Meaning.{Meaning}
 use Rattle.schemes.specs.PackedRows.{bytes_for}
+use Rattle.schemes.specs.Refusals.{first_refusal}
 use Rattle.schemes.specs.Strips.{most_pixels, most_squares, strip_squares, pixel}
 use Rattle.tapes.specs.Drawing.{Drawn, short, drawn}
 use Rattle.tapes.specs.Orders.{orders}
@@ -65,12 +66,7 @@ pub record Outcome : Type 0 where
 
 -- ---- refusals
 
--- The number of the refusal whose reason holds, the lowest if there are several: the list is in rising order.
-abbrev pub refusal_of : List (Bool × ℕ) → Option ℕ
-refusal_of [] = None
-refusal_of (reason ∷ more) = cond reason.0 (Some reason.1) (refusal_of more)
-
--- Why no row is made of a page of this size.
+-- Why no row is made of a page of this size: the number of each reason, in rising order, so that of several the lowest is answered.
 abbrev pub page_refusals : Meaning → (w h : ℕ) → List (Bool × ℕ)
 page_refusals s w h =
     ((nat_lt w 1 || nat_lt most_pixels w) || (nat_lt h 1 || nat_lt most_rows h), row_number PageSize) ∷
@@ -78,14 +74,14 @@ page_refusals s w h =
 
 -- Why a row is refused before a byte is taken: by the page, the rows made, and the lengths of the buffers.
 abbrev pub row_refusal : Meaning → (w h made secret out work : ℕ) → Option ℕ
-row_refusal s w h made secret out work = refusal_of (page_refusals s w h ++ (
+row_refusal s w h made secret out work = first_refusal (page_refusals s w h ++ (
     ((made == h), row_number AllRowsMade) ∷
     (not (secret == bytes_for w), row_number SecretLength) ∷
     (nat_lt out (films_size s w), row_number OutputShort) ∷
     (nat_lt work s.m, row_number WorkShort) ∷ []))
 
 abbrev pub spoil_refusal : State → Option ℕ
-spoil_refusal st = refusal_of (
+spoil_refusal st = first_refusal (
     ((st.made == 0), spoil_number NoRowMade) ∷
     ((st.spoiled == most_spoiled), spoil_number CountFull) ∷ [])
 
@@ -140,7 +136,7 @@ module _ (s : Meaning) (w h : ℕ) where
 
   -- the size of the page is not refused, and every row of it is made
   abbrev pub run_is_full : State → Bool
-  run_is_full st = not (is_some (refusal_of (page_refusals s w h))) && st.made == h
+  run_is_full st = not (is_some (first_refusal (page_refusals s w h))) && st.made == h
 
   abbrev pub close_answer : State → Answer
   close_answer st = closed st.made st.spoiled (bytes_taken st) (run_is_full st)

@@ -1,130 +1,123 @@
 // Fills the strips of a row: draws an order for each pixel and sets its squares on every film.
-ghost use Rattle.std.specs.Prelude.{◌≡◌, ◌+◌, ◌*◌, ◌<◌, ◌≤◌, ◌++◌, length, drop, replicate, is_some, MatchBool};
-ghost use Rattle.std.specs.List.{AllByRecursion};
+ghost use Rattle.std.specs.Prelude.{◌≡◌, ◌+◌, ◌*◌, ◌<◌, ◌≤◌, length, replicate, MatchOption};
+ghost use Rattle.std.specs.List.{All};
 ghost use Rattle.schemes.specs.Strips.{most_squares, strip_squares, strip_size};
-ghost use Rattle.tapes.specs.Blocks.{outcome};
 ghost use Rattle.maker.specs.Films.{films_size};
-ghost use Rattle.maker.specs.Filling.{Blackened, one_square, block, Tabled, Filled, Written, RanShort, Cleared};
+ghost use Rattle.maker.specs.Filling.{Blackened, one_square, block, Filled, Written, RanShort, Cleared};
 
 use crate::tables::Tables;
-use schemes::{Scheme, bit_at};
+use schemes::{Scheme, bit_at, strip_size};
 use tapes::{Tape, draw_order};
 
-// A row of the secret picture: its packed pixels, its width in pixels, and the size of one of its strips in bytes.
+// A row of the secret picture: its packed pixels, and its width in pixels.
 #[derive(Clone, Copy)]
 pub struct SecretRow<'a> {
     pub pixels: &'a [u8],
-    pub width: usize,
-    pub size: usize,
+    pub width: u32,
 }
 
-// Sets one bit of each strip whose bit is set in `cells`.
-fn set_square(out: &mut [u8], size: usize, n: u8, place: usize, cells: u8)
-    requires out { length out.old ≡ n * size }
-    requires place { place < 8 * size }
-    requires few { n ≤ 8 }
-    requires short { size ≤ 4096 }
-    ensures { Blackened n size out.old out.new (one_square place cells) }
-{
-    let shift = 7 - place % 8;
-    let mut byte = place / 8;
-    for k in 0..n {
-        out[byte] |= ((cells >> k) % 2) << shift;
-        byte += size;
+// How the strips of a row lie in an output: those of keyholders 1 to n, one after another, of one size in bytes.
+// The bytes go beside: as a `&mut` field, each method would promise that the reference and both numbers stay the same.
+#[derive(Clone, Copy)]
+pub(crate) struct Strips {
+    keyholders: u8,
+    size: usize,
+    ghost few: { keyholders ≤ 8 },
+    ghost short: { size ≤ 4096 },
+}
+
+impl Strips {
+    // The strips of a row of so many pixels.
+    pub(crate) fn new<S: Scheme>(scheme: &S, width: u32) -> Strips
+        requires { strip_squares (S.means scheme.now).m width ≤ most_squares }
+        ensures keyholders { result.keyholders ≡ (S.means scheme.now).n }
+        ensures size { result.size ≡ strip_size (S.means scheme.now).m width }
+    {
+        Strips {
+            keyholders: scheme.keyholders(),
+            size: strip_size(scheme.columns(), width),
+        }
+    }
+
+    // How many bytes they all have.
+    pub(crate) fn total(self) -> usize
+        ensures { result ≡ self.keyholders * self.size }
+    {
+        usize::from(self.keyholders) * self.size
+    }
+
+    // Sets one bit of each strip whose bit is set in `cells`.
+    fn set_square(self, out: &mut [u8], place: usize, cells: u8)
+        requires out { length out.old ≡ self.keyholders * self.size }
+        requires place { place < 8 * self.size }
+        ensures { Blackened self.keyholders self.size out.old out.new (one_square place cells) }
+    {
+        let first = place / 8;
+        let shift = 7 - place % 8;
+        // An index: after `chunks_exact_mut` nothing is known of the bytes that it lent, and the goal `returns` stays open.
+        for k in 0..self.keyholders {
+            out[k as usize * self.size + first] |= ((cells >> k) % 2) << shift;
+        }
+    }
+
+    // Sets the squares of one pixel on every strip, from bit `start` on.
+    fn set_block(self, out: &mut [u8], table: &[u8], order: &[u8], start: usize)
+        requires out { length out.old ≡ self.keyholders * self.size }
+        requires place { start + length order.now ≤ 8 * self.size }
+        requires columns { All (λ j. j < length table.now) order.now }
+        ensures { Blackened self.keyholders self.size out.old out.new (block table.now order.now start (length order.now)) }
+    {
+        for (p, column) in order.iter().enumerate() {
+            self.set_square(out, start + p, table[*column as usize]);
+        }
     }
 }
 
-// Sets the squares of one pixel on every strip, from bit `start` on.
-fn set_block(table: &[u8], order: &[u8], size: usize, n: u8, start: usize, out: &mut [u8])
-    requires out { length out.old ≡ n * size }
-    requires place { start + length order.now ≤ 8 * size }
-    requires few { n ≤ 8 }
-    requires short { size ≤ 4096 }
-    requires columns { AllByRecursion (λ j. j < length table.now) order.now }
-    ensures { Blackened n size out.old out.new (block table.now order.now start (length order.now)) }
-{
-    for p in 0..order.len() {
-        set_square(out, size, n, start + p, table[order[p] as usize]);
-    }
-}
-
-// Draws the order of a block; false if the tape runs short.
-fn draw_block<T: Tape>(tape: &mut T, order: &mut [u8]) -> bool
-    requires { 1 ≤ length order.old }
-    ensures answers { result ≡ is_some (outcome order.old (T.bytes tape.old)).answer }
-    ensures holds { order.new ≡ (outcome order.old (T.bytes tape.old)).slice }
-    ensures leaves { T.bytes tape.new ≡ (outcome order.old (T.bytes tape.old)).waiting }
-{
-    draw_order(tape, order).is_some()
-}
-
-// Draws an order for each pixel and sets its squares, on strips that are white; false if the tape runs short.
+// Draws an order for each pixel and sets its squares, on strips that are white; `None` if the tape runs short.
 fn fill_pixels<S: Scheme, T: Tape>(
     scheme: &S,
     tape: &mut T,
-    tables: &Tables,
     row: SecretRow<'_>,
+    strips: Strips,
     out: &mut [u8],
-    work: &mut [u8],
-) -> bool
-    requires tables { Tabled (S.means scheme.now) tables.now.white tables.now.black }
-    requires size { row.size ≡ strip_size (S.means scheme.now).m row.width }
-    requires squares { strip_squares (S.means scheme.now).m row.width ≤ most_squares }
-    requires out { out.old ≡ replicate ((S.means scheme.now).n * row.size) 0 }
-    requires work { length work.old ≡ (S.means scheme.now).m }
-    ensures { MatchBool result (Filled (S.means scheme.now) row.entry.width row.entry.pixels.now (T.bytes tape.old) (T.bytes tape.new) out.new) (RanShort (S.means scheme.now) row.entry.width (T.bytes tape.old) (T.bytes tape.new)) }
+    order: &mut [u8],
+) -> Option<()>
+    requires keyholders { strips.keyholders ≡ (S.means scheme.now).n }
+    requires size { strips.size ≡ strip_size (S.means scheme.now).m row.width }
+    requires out { out.old ≡ replicate (strips.keyholders * strips.size) 0 }
+    requires order { length order.old ≡ (S.means scheme.now).m }
+    ensures { MatchOption result (RanShort (S.means scheme.now) row.entry.width (T.bytes tape.old) (T.bytes tape.new)) (λ _. Filled (S.means scheme.now) row.entry.width row.entry.pixels.now (T.bytes tape.old) (T.bytes tape.new) out.new) }
 {
-    let n = scheme.keyholders();
-    let m = work.len();
-    let mut start = 0;
-    for x in 0..row.width {
-        if !draw_block(tape, work) {
-            return false;
-        }
+    let tables = Tables::new(scheme);
+    // An index: pixel x is a bit of the packed row, and its squares begin x blocks into each strip.
+    for x in 0..row.width as usize {
+        draw_order(tape, order)?;
         let table = tables.for_pixel(bit_at(row.pixels, x));
-        set_block(table, work, row.size, n, start, out);
-        start += m;
+        strips.set_block(out, table, order, x * order.len());
     }
-    true
+    Some(())
 }
 
-// Makes the first n bytes 0.
-fn clear(out: &mut [u8], n: usize)
-    requires { n ≤ length out.old }
-    ensures { out.new ≡ replicate n 0 ++ drop n out.old }
-{
-    out[0..n].fill(0);
-}
-
-// Fills the strips of a row, at the start of the output. If the tape runs short it answers false, and they are 0.
+// Fills the strips of a row, at the start of the output. If the tape runs short it answers `None`, and they are 0.
 pub fn write_films<S: Scheme, T: Tape>(
     scheme: &S,
     tape: &mut T,
     row: SecretRow<'_>,
     out: &mut [u8],
     work: &mut [u8],
-) -> bool
-    requires size { row.size ≡ strip_size (S.means scheme.now).m row.width }
+) -> Option<()>
     requires squares { strip_squares (S.means scheme.now).m row.width ≤ most_squares }
     requires out { films_size (S.means scheme.now) row.width ≤ length out.old }
     requires work { (S.means scheme.now).m ≤ length work.old }
-    ensures { MatchBool result (Written (S.means scheme.now) row.entry.width row.entry.pixels.now (T.bytes tape.old) (T.bytes tape.new) out.old out.new) (Cleared (S.means scheme.now) row.entry.width (T.bytes tape.old) (T.bytes tape.new) out.old out.new) }
+    ensures { MatchOption result (Cleared (S.means scheme.now) row.entry.width (T.bytes tape.old) (T.bytes tape.new) out.old out.new) (λ _. Written (S.means scheme.now) row.entry.width row.entry.pixels.now (T.bytes tape.old) (T.bytes tape.new) out.old out.new) }
 {
+    let strips = Strips::new(scheme, row.width);
+    let total = strips.total();
     let m = usize::from(scheme.columns());
-    let total = usize::from(scheme.keyholders()) * row.size;
-    let tables = Tables::new(scheme);
-    clear(out, total);
-    let filled = fill_pixels(
-        scheme,
-        tape,
-        &tables,
-        row,
-        &mut out[0..total],
-        &mut work[0..m],
-    );
-    if !filled {
-        clear(out, total);
-        return false;
+    out[..total].fill(0);
+    let filled = fill_pixels(scheme, tape, row, strips, &mut out[..total], &mut work[..m]);
+    if filled.is_none() {
+        out[..total].fill(0);
     }
-    true
+    filled
 }

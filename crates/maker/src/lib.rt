@@ -12,4 +12,4 @@ mod work_strip;
 pub use maker::Maker;
 pub use plays::{Call, Reply, RunLog, Unplayed, play};
 pub use refusals::{RowRefusal, SpoilRefusal};
-pub use runs::{Closed, MOST_ROWS};
+pub use runs::{Closed, MOST_ROWS, Tally};

@@ -1,11 +1,10 @@
 // Whole runs: a list of calls, carried out in order by one fresh maker.
-ghost use Rattle.std.specs.Prelude.{◌≡◌, true, false, map, length, IfOk, IfErr, MatchOption};
-ghost use Rattle.maker.specs.Runs.{close_answer};
+ghost use Rattle.std.specs.Prelude.{◌≡◌, map, length, IfOk, IfErr};
 ghost use Rattle.maker.specs.Law.{TapeOf, Conceals, Shows};
-ghost use Rattle.maker.specs.Makers.{state_of, outcome_of, Leaves, answer_of};
+ghost use Rattle.maker.specs.Makers.{outcome_of, Leaves};
 ghost use Rattle.maker.specs.Plays.{call_of, ReplyTo, Played};
 
-use crate::{Closed, Maker, RowRefusal, SpoilRefusal};
+use crate::{Closed, Maker, RowRefusal, SpoilRefusal, Tally};
 use schemes::Scheme;
 use std::alloc::Global;
 use tapes::Tape;
@@ -32,7 +31,7 @@ pub enum Reply {
         work: Vec<u8>,
     },
     Spoil(Result<u16, SpoilRefusal>),
-    Tally(u32, u16, usize),
+    Tally(Tally),
 }
 
 // A run that was played: a reply to each call, and what closing answered if it was closed.
@@ -70,21 +69,8 @@ fn perform<S: Scheme + Drop, T: Tape + Drop>(maker: &mut Maker<S, T>, call: Call
             }
         }
         Call::Spoil => Reply::Spoil(maker.spoil()),
-        Call::Tally => {
-            let (made, spoiled, taken) = maker.tally();
-            Reply::Tally(made, spoiled, taken)
-        }
+        Call::Tally => Reply::Tally(maker.tally()),
     }
-}
-
-// Closes the run if `closes` says so; else it just ends.
-fn finish<S: Scheme + Drop, T: Tape + Drop>(maker: Maker<S, T>, closes: bool) -> Option<Closed>
-    ensures { MatchOption result (closes ≡ false) (λ c. (closes ≡ true) × (answer_of c ≡ close_answer (S.means maker.scheme) maker.width maker.height (state_of S.means T.bytes maker))) }
-{
-    if !closes {
-        return None;
-    }
-    Some(maker.close())
 }
 
 // Plays a whole run: makes a maker, carries out every call in its order, and closes the run at its end if `closes` says so.
@@ -104,15 +90,13 @@ pub fn play<S: Scheme + Drop, T: Tape + Drop>(
     ensures conceals { Conceals (S.means scheme) width height }
     ensures shows { Shows (S.means scheme) width height }
 {
-    let mut replies = match Vec::with_capacity(heap, calls.len()) {
-        Ok(empty) => empty,
-        Err(_) => {
-            return Err(Unplayed {
-                scheme,
-                tape,
-                calls,
-            });
-        }
+    // `?` cannot hand the parts back.
+    let Ok(mut replies) = Vec::with_capacity(heap, calls.len()) else {
+        return Err(Unplayed {
+            scheme,
+            tape,
+            calls,
+        });
     };
     let mut maker = Maker::new(scheme, tape, width, height);
     for call in calls {
@@ -120,6 +104,6 @@ pub fn play<S: Scheme + Drop, T: Tape + Drop>(
     }
     Ok(RunLog {
         replies,
-        closed: finish(maker, closes),
+        closed: closes.then(|| maker.close()),
     })
 }

@@ -8,19 +8,19 @@ use std::fmt;
 #[derive(Clone, Copy, PartialEq, Eq, Debug)]
 pub enum RowRefusal {
     // The width or the height of the page is outside 1 to 4,096.
-    PageSize,
+    PageSize = 17,
     // A strip would have more than 32,768 squares.
-    StripLength,
+    StripLength = 18,
     // Every row of the page is made.
-    AllRowsMade,
+    AllRowsMade = 19,
     // The secret row is not a width of pixels long, in whole bytes.
-    SecretLength,
+    SecretLength = 20,
     // The output has no room for the strips of all keyholders.
-    OutputShort,
+    OutputShort = 21,
     // The work strip has no byte for each column.
-    WorkShort,
+    WorkShort = 22,
     // A byte was wanted, and none waited. The tape is empty now, and the strips in the output are 0.
-    TapeEnd,
+    TapeEnd = 23,
 }
 
 impl RowRefusal {
@@ -28,20 +28,13 @@ impl RowRefusal {
     pub fn number(self) -> u8
         ensures { result ≡ row_number self }
     {
-        match self {
-            RowRefusal::PageSize => 17,
-            RowRefusal::StripLength => 18,
-            RowRefusal::AllRowsMade => 19,
-            RowRefusal::SecretLength => 20,
-            RowRefusal::OutputShort => 21,
-            RowRefusal::WorkShort => 22,
-            RowRefusal::TapeEnd => 23,
-        }
+        self as u8
     }
+}
 
-    // What was wrong.
-    fn words(self) -> &'static str {
-        match self {
+impl fmt::Display for RowRefusal {
+    fn fmt<W: fmt::Write>(&self, f: &mut fmt::Formatter<W>) -> fmt::Result {
+        let words = match *self {
             RowRefusal::PageSize => "the width or the height is outside 1 to 4096",
             RowRefusal::StripLength => "a strip would have more than 32768 squares",
             RowRefusal::AllRowsMade => "every row of the page is made",
@@ -49,15 +42,8 @@ impl RowRefusal {
             RowRefusal::OutputShort => "the output has no room for the strips of all keyholders",
             RowRefusal::WorkShort => "the work strip is shorter than the number of columns",
             RowRefusal::TapeEnd => "the tape ended before the row was made",
-        }
-    }
-}
-
-impl fmt::Display for RowRefusal {
-    fn fmt<W: fmt::Write>(&self, f: &mut fmt::Formatter<W>) -> fmt::Result {
-        let number = self.number();
-        let words = self.words();
-        write!(f, "refused {number}: {words}")
+        };
+        write_refusal(f, self.number(), words)
     }
 }
 
@@ -65,9 +51,9 @@ impl fmt::Display for RowRefusal {
 #[derive(Clone, Copy, PartialEq, Eq, Debug)]
 pub enum SpoilRefusal {
     // No row is made.
-    NoRowMade,
+    NoRowMade = 24,
     // 65,535 rows are spoiled, and no more can be counted.
-    CountFull,
+    CountFull = 25,
 }
 
 impl SpoilRefusal {
@@ -75,25 +61,22 @@ impl SpoilRefusal {
     pub fn number(self) -> u8
         ensures { result ≡ spoil_number self }
     {
-        match self {
-            SpoilRefusal::NoRowMade => 24,
-            SpoilRefusal::CountFull => 25,
-        }
-    }
-
-    // What was wrong.
-    fn words(self) -> &'static str {
-        match self {
-            SpoilRefusal::NoRowMade => "no row is made",
-            SpoilRefusal::CountFull => "65535 rows are spoiled already",
-        }
+        self as u8
     }
 }
 
 impl fmt::Display for SpoilRefusal {
     fn fmt<W: fmt::Write>(&self, f: &mut fmt::Formatter<W>) -> fmt::Result {
-        let number = self.number();
-        let words = self.words();
-        write!(f, "refused {number}: {words}")
+        let words = match *self {
+            SpoilRefusal::NoRowMade => "no row is made",
+            SpoilRefusal::CountFull => "65535 rows are spoiled already",
+        };
+        write_refusal(f, self.number(), words)
     }
+}
+
+// Prints a refusal: its number, and what was wrong.
+// Private in each crate: nothing is proved of printed text, and a public call has a contract.
+fn write_refusal<W: fmt::Write>(f: &mut fmt::Formatter<W>, number: u8, words: &str) -> fmt::Result {
+    write!(f, "refused {number}: {words}")
 }

@@ -1,27 +1,34 @@
 // The calls of a run: making a maker, row, spoil, tally and close. What each answers and leaves is `outcome` of specs/Runs.
-ghost use Rattle.std.specs.Prelude.{◌≡◌, length, IfNone};
+ghost use Rattle.std.specs.Prelude.{◌≡◌, length, IfOk};
 ghost use Rattle.std.specs.Option.{option_map};
+ghost use Rattle.schemes.specs.Refusals.{refusal_in, first_refusal};
 ghost use Rattle.maker.specs.Refusals.{row_number, spoil_number};
-ghost use Rattle.maker.specs.Runs.{fresh, row as row-call, spoil as spoil-call, tally as tally-call, tallied, close_answer, refusal_of, page_refusals, row_refusal};
+ghost use Rattle.maker.specs.Runs.{fresh, row as row_call, spoil as spoil_call, tally as tally_call, close_answer, page_refusals, row_refusal};
 ghost use Rattle.maker.specs.Law.{TapeOf, Conceals, Shows};
-ghost use Rattle.maker.specs.Makers.{state_of, outcome_of, Leaves, Answers, row_written, answer_of};
+ghost use Rattle.maker.specs.Makers.{state_of, outcome_of, Leaves, Answers, row_written, tally_answer, answer_of};
 ghost use Rattle.maker.specs.Filling.{PageFits, RowFits};
 
-use crate::films::{SecretRow, write_films};
+use crate::films::{SecretRow, Strips, write_films};
 use crate::work_strip::WorkStrip;
 use crate::{Maker, RowRefusal, SpoilRefusal};
-use schemes::{MOST_PIXELS, MOST_SQUARES, Scheme, bytes_for, strip_size, strip_squares};
+use schemes::{MOST_PIXELS, MOST_SQUARES, Scheme, bytes_for, strip_squares};
 use tapes::Tape;
 
 // A page has at most so many rows.
 pub const MOST_ROWS: u32 = 4096;
 
-// How a run ended: rows made, rows spoiled, bytes taken, and whether every row of the page was made.
+// How far a run is: rows made, rows spoiled, bytes taken.
 #[derive(Clone, Copy, PartialEq, Eq, Debug)]
-pub struct Closed {
+pub struct Tally {
     pub made: u32,
     pub spoiled: u16,
     pub taken: usize,
+}
+
+// How a run ended: its tally, and whether every row of the page was made.
+#[derive(Clone, Copy, PartialEq, Eq, Debug)]
+pub struct Closed {
+    pub tally: Tally,
     pub is_full: bool,
 }
 
@@ -54,22 +61,20 @@ impl<S: Scheme + Drop, T: Tape + Drop> Maker<S, T> {
     // Answers the number of rows made. `TapeEnd` leaves the tape empty and zeros in the place of the strips; the other
     // refusals take no byte and leave the output unchanged.
     pub fn row(&mut self, secret: &[u8], out: &mut [u8], work: &mut [u8]) -> Result<u32, RowRefusal>
-        ensures answers { Answers row_number result (outcome_of S.means T.bytes self.old (row-call secret.now out.old work.old)).answer }
-        ensures output { out.new ≡ (outcome_of S.means T.bytes self.old (row-call secret.now out.old work.old)).out }
-        ensures wiped { work.new ≡ (outcome_of S.means T.bytes self.old (row-call secret.now out.old work.old)).work }
-        ensures leaves { Leaves S.means T.bytes self.old self.new (outcome_of S.means T.bytes self.old (row-call secret.now out.old work.old)) }
+        ensures answers { Answers row_number result (outcome_of S.means T.bytes self.old (row_call secret.now out.old work.old)).answer }
+        ensures output { out.new ≡ (outcome_of S.means T.bytes self.old (row_call secret.now out.old work.old)).out }
+        ensures wiped { work.new ≡ (outcome_of S.means T.bytes self.old (row_call secret.now out.old work.old)).work }
+        ensures leaves { Leaves S.means T.bytes self.old self.new (outcome_of S.means T.bytes self.old (row_call secret.now out.old work.old)) }
     {
         let guard = WorkStrip { strip: work };
-        if let Some(why) = self.row_refusal(secret.len(), out.len(), guard.strip.len()) {
-            return Err(why);
-        }
+        self.check_row(secret.len(), out.len(), guard.strip.len())?;
         self.write_row(secret, out, guard.strip)
     }
 
     // Takes back the row made last, so that it is made again. Answers the number of rows spoiled.
     pub fn spoil(&mut self) -> Result<u16, SpoilRefusal>
-        ensures answers { Answers spoil_number result (outcome_of S.means T.bytes self.old spoil-call).answer }
-        ensures leaves { Leaves S.means T.bytes self.old self.new (outcome_of S.means T.bytes self.old spoil-call) }
+        ensures answers { Answers spoil_number result (outcome_of S.means T.bytes self.old spoil_call).answer }
+        ensures leaves { Leaves S.means T.bytes self.old self.new (outcome_of S.means T.bytes self.old spoil_call) }
     {
         if self.made == 0 {
             return Err(SpoilRefusal::NoRowMade);
@@ -83,68 +88,59 @@ impl<S: Scheme + Drop, T: Tape + Drop> Maker<S, T> {
     }
 
     // Rows made, rows spoiled, bytes taken.
-    pub fn tally(&self) -> (u32, u16, usize)
-        ensures { tallied result.0 result.1 result.2 ≡ (outcome_of S.means T.bytes self.now tally-call).answer }
+    pub fn tally(&self) -> Tally
+        ensures { tally_answer result ≡ (outcome_of S.means T.bytes self.now tally_call).answer }
     {
-        (
-            self.made,
-            self.spoiled,
-            self.supply.saturating_sub(self.tape.waiting()),
-        )
+        Tally {
+            made: self.made,
+            spoiled: self.spoiled,
+            taken: self.supply.saturating_sub(self.tape.waiting()),
+        }
     }
 
     // Ends the run. It is full if its page is of a size that rows are made of, and every row is made.
     pub fn close(self) -> Closed
         ensures { answer_of result ≡ close_answer (S.means self.scheme) self.width self.height (state_of S.means T.bytes self) }
     {
-        let (made, spoiled, taken) = self.tally();
         Closed {
-            made,
-            spoiled,
-            taken,
-            is_full: self.page_refusal().is_none() && made == self.height,
+            tally: self.tally(),
+            is_full: self.check_page().is_ok() && self.made == self.height,
         }
     }
 
-    // Why no row of the page is made, whatever its buffers.
-    fn page_refusal(&self) -> Option<RowRefusal>
-        ensures why { option_map row_number result ≡ refusal_of (page_refusals (S.means self.now.scheme) self.now.width self.now.height) }
-        ensures fits { IfNone result (PageFits (S.means self.now.scheme) self.now.width self.now.height) }
+    // Refuses a page of which no row is made, whatever its buffers.
+    fn check_page(&self) -> Result<(), RowRefusal>
+        ensures why { option_map row_number (refusal_in result) ≡ first_refusal (page_refusals (S.means self.now.scheme) self.now.width self.now.height) }
+        ensures fits { IfOk result (λ _. PageFits (S.means self.now.scheme) self.now.width self.now.height) }
     {
-        let w = self.width;
-        let h = self.height;
-        if w < 1 || w > MOST_PIXELS || h < 1 || h > MOST_ROWS {
-            return Some(RowRefusal::PageSize);
+        if !(1..=MOST_PIXELS).contains(&self.width) || !(1..=MOST_ROWS).contains(&self.height) {
+            return Err(RowRefusal::PageSize);
         }
-        if strip_squares(self.scheme.columns(), w) > MOST_SQUARES {
-            return Some(RowRefusal::StripLength);
+        if strip_squares(self.scheme.columns(), self.width) > MOST_SQUARES {
+            return Err(RowRefusal::StripLength);
         }
-        None
+        Ok(())
     }
 
-    // Why a row is refused before a byte is taken, by the lengths of its buffers.
-    fn row_refusal(&self, secret: usize, out: usize, work: usize) -> Option<RowRefusal>
-        ensures why { option_map row_number result ≡ row_refusal (S.means self.now.scheme) self.now.width self.now.height self.now.made secret out work }
-        ensures fits { IfNone result (RowFits (S.means self.now.scheme) self.now.width self.now.height self.now.made secret out work) }
+    // Refuses a row before a byte is taken, by the lengths of its buffers.
+    fn check_row(&self, secret: usize, out: usize, work: usize) -> Result<(), RowRefusal>
+        ensures why { option_map row_number (refusal_in result) ≡ row_refusal (S.means self.now.scheme) self.now.width self.now.height self.now.made secret out work }
+        ensures fits { IfOk result (λ _. RowFits (S.means self.now.scheme) self.now.width self.now.height self.now.made secret out work) }
     {
-        if let Some(why) = self.page_refusal() {
-            return Some(why);
-        }
+        self.check_page()?;
         if self.made == self.height {
-            return Some(RowRefusal::AllRowsMade);
+            return Err(RowRefusal::AllRowsMade);
         }
         if secret != bytes_for(self.width as usize) {
-            return Some(RowRefusal::SecretLength);
+            return Err(RowRefusal::SecretLength);
         }
-        let columns = self.scheme.columns();
-        let size = strip_size(columns, self.width);
-        if out < usize::from(self.scheme.keyholders()) * size {
-            return Some(RowRefusal::OutputShort);
+        if out < Strips::new(&self.scheme, self.width).total() {
+            return Err(RowRefusal::OutputShort);
         }
-        if work < usize::from(columns) {
-            return Some(RowRefusal::WorkShort);
+        if work < usize::from(self.scheme.columns()) {
+            return Err(RowRefusal::WorkShort);
         }
-        None
+        Ok(())
     }
 
     // Makes a row that is not refused before a byte is taken.
@@ -161,13 +157,10 @@ impl<S: Scheme + Drop, T: Tape + Drop> Maker<S, T> {
     {
         let row = SecretRow {
             pixels: secret,
-            width: self.width as usize,
-            size: strip_size(self.scheme.columns(), self.width),
+            width: self.width,
         };
-        if write_films(&self.scheme, &mut self.tape, row, out, work) {
-            self.made += 1;
-            return Ok(self.made);
-        }
-        Err(RowRefusal::TapeEnd)
+        write_films(&self.scheme, &mut self.tape, row, out, work).ok_or(RowRefusal::TapeEnd)?;
+        self.made += 1;
+        Ok(self.made)
     }
 }

@@ -4,7 +4,7 @@ ghost use Rattle.maker.specs.Filling.{cells_of, Table, Tabled};
 
 use schemes::{Colour, MOST_COLUMNS, Scheme};
 
-// A byte for each column: the cell of keyholder k + 1 is bit k.
+// A byte for each column, the cell of keyholder k + 1 at bit k. Its size is fixed, since a row call takes no memory.
 type Cells = [u8; MOST_COLUMNS as usize];
 
 // The cells of all columns, for a white pixel and for a black one.
@@ -37,13 +37,9 @@ impl Tables {
 fn column_cells<S: Scheme>(scheme: &S, colour: Colour, column: u8) -> u8
     ensures { result ≡ cells_of (S.means scheme.now) colour column }
 {
-    let mut cells = 0;
-    for k in 0..scheme.keyholders() {
-        if scheme.cell(colour, k + 1, column) {
-            cells |= 1 << k;
-        }
-    }
-    cells
+    (0..scheme.keyholders()).fold(0, |cells, k| {
+        cells | u8::from(scheme.cell(colour, k + 1, column)) << k
+    })
 }
 
 // The cells of all columns, for one colour.
@@ -51,8 +47,9 @@ fn cells_of<S: Scheme>(scheme: &S, colour: Colour) -> Cells
     ensures { Table (S.means scheme.now) colour result }
 {
     let mut table = [0; MOST_COLUMNS as usize];
-    for column in 0..scheme.columns() {
-        table[column as usize] = column_cells(scheme, colour, column);
+    let m = usize::from(scheme.columns());
+    for (column, cells) in table[..m].iter_mut().enumerate() {
+        *cells = column_cells(scheme, colour, column as u8);
     }
     table
 }

@@ -7,9 +7,14 @@ use std::test::*;
 use tapes::*;
 
 fn all_of(n: u8) -> Result<AllOf, Fail> {
-    match AllOf::new(n) {
-        Ok(scheme) => Ok(scheme),
-        Err(why) => Err(Fail::new(why)),
+    AllOf::new(n).map_err(Fail::new)
+}
+
+fn tally(made: u32, spoiled: u16, taken: usize) -> Tally {
+    Tally {
+        made,
+        spoiled,
+        taken,
     }
 }
 
@@ -23,11 +28,9 @@ fn worked_row(rt: HostRuntime) -> Result<(), Fail> {
     assert_eq!(rt; maker.row(&[0b0111_1111], &mut out, &mut work), Ok(1));
     assert_eq!(rt; out, [0b1001_0000, 0b1010_0000, 7]);
     assert_eq!(rt; work, [0, 0, 0]);
-    assert_eq!(rt; maker.tally(), (1, 0, 2));
+    assert_eq!(rt; maker.tally(), tally(1, 0, 2));
     let closed = Closed {
-        made: 1,
-        spoiled: 0,
-        taken: 2,
+        tally: tally(1, 0, 2),
         is_full: true,
     };
     assert_eq!(rt; maker.close(), closed);
@@ -46,16 +49,13 @@ fn refused(
     let secret = Vec::from_elem(heap, 1, lengths.0)?;
     let mut out = Vec::from_elem(heap, 9, lengths.1)?;
     let mut work = Vec::from_elem(heap, 7, lengths.2)?;
-    let Err(why) = maker.row(&secret, &mut out, &mut work) else {
-        return Err(Fail::new("accepted"));
-    };
-    for byte in out.iter() {
-        assert_eq!(rt; *byte, 9);
-    }
-    for byte in work.iter() {
-        assert_eq!(rt; *byte, 0);
-    }
-    assert_eq!(rt; maker.tally(), (0, 0, 0));
+    let why = maker
+        .row(&secret, &mut out, &mut work)
+        .err()
+        .ok_or("accepted")?;
+    assert!(rt; out.iter().all(|byte| *byte == 9));
+    assert!(rt; work.iter().all(|byte| *byte == 0));
+    assert_eq!(rt; maker.tally(), tally(0, 0, 0));
     Ok(why)
 }
 
@@ -89,7 +89,7 @@ fn greatest_page(rt: HostRuntime) -> Result<(), Fail> {
     assert_eq!(rt; out[0], 0b0110_0110);
     assert_eq!(rt; out[2047], 0b0110_0110);
     assert_eq!(rt; out[2048], 9);
-    assert_eq!(rt; maker.tally(), (1, 0, 4096));
+    assert_eq!(rt; maker.tally(), tally(1, 0, 4096));
     Ok(())
 }
 
@@ -122,7 +122,7 @@ fn tape_ends_within_a_block(rt: HostRuntime) -> Result<(), Fail> {
     assert_eq!(rt; maker.row(&[255], &mut out, &mut work), ended);
     assert_eq!(rt; out, [0, 0, 0, 8]);
     assert_eq!(rt; work, [0; 5]);
-    assert_eq!(rt; maker.tally(), (0, 0, 4));
+    assert_eq!(rt; maker.tally(), tally(0, 0, 4));
     Ok(())
 }
 
@@ -135,11 +135,11 @@ fn one_column_on_an_empty_tape(rt: HostRuntime) -> Result<(), Fail> {
     assert_eq!(rt; maker.row(&[0b1010_0110, 255], &mut out, &mut work), Ok(1));
     assert_eq!(rt; out, [0b1010_0110, 0b1110_0000, 9]);
     assert_eq!(rt; work, [0]);
-    assert_eq!(rt; maker.tally(), (1, 0, 0));
+    assert_eq!(rt; maker.tally(), tally(1, 0, 0));
     Ok(())
 }
 
-// One row after another, each answering this, with the output and the work strip as they are left.
+// Makes a row of one pixel: it answers this, and leaves the output so and the work strip 0.
 fn one_pixel(
     rt: &impl Abort,
     maker: &mut Maker<AllOf, PracticeTape>,
@@ -165,7 +165,7 @@ fn spoiled_rows(rt: HostRuntime) -> Result<(), Fail> {
     one_pixel(&rt, &mut maker, Ok(1), 128)?;
     one_pixel(&rt, &mut maker, Err(RowRefusal::AllRowsMade), 9)?;
     assert_eq!(rt; maker.spoil(), Err(SpoilRefusal::CountFull));
-    assert_eq!(rt; maker.tally(), (1, 65535, 0));
+    assert_eq!(rt; maker.tally(), tally(1, 65535, 0));
     Ok(())
 }
 
@@ -197,9 +197,9 @@ fn check_row(
         return Err(Fail::new("no reply to a row"));
     };
     assert_eq!(rt; answered, answer);
-    assert!(rt; back.as_slice() == secret);
-    assert!(rt; left.as_slice() == out.as_slice());
-    assert!(rt; work.as_slice() == [0, 0, 0].as_slice());
+    assert_eq!(rt; back.as_slice(), secret);
+    assert_eq!(rt; left.as_slice(), out.as_slice());
+    assert_eq!(rt; work.as_slice(), [0, 0, 0].as_slice());
     Ok(())
 }
 
@@ -215,15 +215,11 @@ fn check_spoil(
     Ok(())
 }
 
-fn check_tally(
-    rt: &impl Abort,
-    reply: Option<Reply>,
-    counts: (u32, u16, usize),
-) -> Result<(), Fail> {
-    let Some(Reply::Tally(made, spoiled, taken)) = reply else {
+fn check_tally(rt: &impl Abort, reply: Option<Reply>, counts: Tally) -> Result<(), Fail> {
+    let Some(Reply::Tally(counted)) = reply else {
         return Err(Fail::new("no reply to a tally"));
     };
-    assert_eq!(rt; (made, spoiled, taken), counts);
+    assert_eq!(rt; counted, counts);
     Ok(())
 }
 
@@ -242,9 +238,7 @@ fn played(rt: &impl Abort, heap: Global, closes: bool) -> Result<Option<Closed>,
     calls.push(Call::Spoil)?;
     calls.push(Call::Tally)?;
     let tape = NoiseTape::new([5, 8, 2, 7, 1].to_vec(heap)?);
-    let Ok(log) = play(heap, all_of(2)?, tape, 2, 1, calls, closes) else {
-        return Err(Fail::new("no memory"));
-    };
+    let log = play(heap, all_of(2)?, tape, 2, 1, calls, closes).map_err(|_| "no memory")?;
     let mut replies = log.replies.into_iter();
     check_row(
         rt,
@@ -253,7 +247,7 @@ fn played(rt: &impl Abort, heap: Global, closes: bool) -> Result<Option<Closed>,
         &pixels,
         [0b1001_0000, 0b1010_0000, 7],
     )?;
-    check_tally(rt, replies.next(), (1, 0, 2))?;
+    check_tally(rt, replies.next(), tally(1, 0, 2))?;
     check_row(
         rt,
         replies.next(),
@@ -285,7 +279,7 @@ fn played(rt: &impl Abort, heap: Global, closes: bool) -> Result<Option<Closed>,
         [0, 0, 7],
     )?;
     check_spoil(rt, replies.next(), Err(SpoilRefusal::NoRowMade))?;
-    check_tally(rt, replies.next(), (0, 2, 5))?;
+    check_tally(rt, replies.next(), tally(0, 2, 5))?;
     assert!(rt; replies.next().is_none());
     Ok(log.closed)
 }
@@ -293,9 +287,7 @@ fn played(rt: &impl Abort, heap: Global, closes: bool) -> Result<Option<Closed>,
 #[test]
 fn whole_run_closed(rt: HostRuntime) -> Result<(), Fail> {
     let closed = Closed {
-        made: 0,
-        spoiled: 2,
-        taken: 5,
+        tally: tally(0, 2, 5),
         is_full: false,
     };
     assert_eq!(rt; played(&rt, rt.alloc(), true)?, Some(closed));
@@ -319,5 +311,14 @@ fn numbers(rt: HostRuntime) -> Result<(), Fail> {
     assert_eq!(rt; RowRefusal::TapeEnd.number(), 23);
     assert_eq!(rt; SpoilRefusal::NoRowMade.number(), 24);
     assert_eq!(rt; SpoilRefusal::CountFull.number(), 25);
+    Ok(())
+}
+
+#[test]
+fn printed(rt: HostRuntime) -> Result<(), Fail> {
+    let row = RowRefusal::AllRowsMade.to_string(rt.alloc())?;
+    assert_eq!(rt; row.as_str(), "refused 19: every row of the page is made");
+    let spoil = SpoilRefusal::NoRowMade.to_string(rt.alloc())?;
+    assert_eq!(rt; spoil.as_str(), "refused 24: no row is made");
     Ok(())
 }

@@ -1,23 +1,20 @@
-use Rattle.std.proofs.Common.{◌≡◌, [], ◌∷◌, map, length, vec_items, sym, refl, ap, ◌∙◌, subst, arith}
+use Rattle.std.proofs.Common.{rules, ◌≡◌, true, false, [], ◌∷◌, map, length, vec_items, MatchOption, sym, ap, ◌∙◌, subst, arith}
 use Rattle.std.specs.Vec.Iter.{into_iter_items}
 use Rattle.std.proofs.lemmas.List.{nil_from_length}
+use Rattle.maker.specs.Makers.{state_of, answer_of}
 use Rattle.maker.specs.Plays.{call_of}
+use Rattle.maker.specs.Runs.{close_answer}
 use Rattle.maker.proofs.Laws.{conceals, shows}
 use Rattle.maker.proofs.Playing.{Playing, playing_none, playing_more, played}
 use Rattle.maker.proofs.plays.play.Goals as goal
 
-pub returns-in-Err : goal.returns-in-Err
-returns-in-Err g c =
-    let s = g.S.Scheme.means c.args.scheme in
-    let in_range = g.met.S.Scheme.in_range c.args.scheme in
-    let lawful = g.met.S.Scheme.lawful c.args.scheme in
-    record {
-      plays = tt;
-      no_memory = (refl, refl, refl);
-      tape = record { long = refl; bytes = g.met.T.Tape.below c.args.tape };
-      conceals = conceals s in_range lawful c.args.width c.args.height;
-      shows = shows s in_range lawful c.args.width c.args.height;
-    }
+pub returns-in_default-clause-conceals : goal.returns-in_default-clause-conceals
+returns-in_default-clause-conceals g c =
+    conceals (g.S.Scheme.means c.args.scheme) (g.met.S.Scheme.in_range c.args.scheme) (g.met.S.Scheme.lawful c.args.scheme) c.args.width c.args.height
+
+pub returns-in_default-clause-shows : goal.returns-in_default-clause-shows
+returns-in_default-clause-shows g c =
+    shows (g.S.Scheme.means c.args.scheme) (g.met.S.Scheme.in_range c.args.scheme) (g.met.S.Scheme.lawful c.args.scheme) c.args.width c.args.height
 
 pub loop-call-init : goal.loop-call-init
 loop-call-init g c =
@@ -46,25 +43,23 @@ loop-call-preserved g c =
       omega (arith, c.loop-call.invariant.1, ap length e, c.push_reserved.ensures.len, c.push_reserved.ensures.capacity),
     )
 
-pub returns : goal.returns
-returns g c =
+pub returns-clause-plays : goal.returns-clause-plays
+returns-clause-plays g c =
     let means = g.S.Scheme.means in
     let bytes = g.T.Tape.bytes in
-    let s = means c.args.scheme in
-    let in_range = g.met.S.Scheme.in_range c.args.scheme in
-    let lawful = g.met.S.Scheme.lawful c.args.scheme in
     let all = map call_of (into_iter_items c.into_iter-call-iterator.result) in
     let start = c.new-maker.result in
+    let last = c.loop-call.maker in
     let e : into_iter_items c.loop-call.call-iterator ≡ [] = nil_from_length _ (sym c.loop-call.call-iterator.rest.ok.0 ∙ c.in-None.ensures.steps.0) in
-    let h = subst (λ l. Playing means bytes start all c.loop-call.maker (map call_of l) (vec_items c.loop-call.replies)) e c.loop-call.invariant.0 in
+    let h = subst (λ l. Playing means bytes start all last (map call_of l) (vec_items c.loop-call.replies)) e c.loop-call.invariant.0 in
     let parts = c.new-maker.ensures.parts in
-    record {
-      plays =
-          played means bytes start all c.loop-call.maker (map call_of (vec_items c.args.calls)) (vec_items c.loop-call.replies) c.args.closes c.finish.result h
-          (ap (map call_of) c.into_iter-call-iterator.ensures.into_iter_gives.0) c.args.scheme c.args.tape c.args.width c.args.height
-          parts.0 parts.2 parts.3 c.new-maker.ensures.fresh c.finish.ensures;
-      no_memory = tt;
-      tape = c.new-maker.ensures.tape;
-      conceals = conceals s in_range lawful c.args.width c.args.height;
-      shows = shows s in_range lawful c.args.width c.args.height;
-    }
+    let shut : MatchOption c.then.result (c.args.closes ≡ false) (λ closed. (c.args.closes ≡ true) × (answer_of closed ≡ close_answer (means last.scheme) last.width last.height (state_of means bytes last))) = search rules in
+    played means bytes start all last (map call_of (vec_items c.args.calls)) (vec_items c.loop-call.replies) c.args.closes c.then.result h
+    (ap (map call_of) c.into_iter-call-iterator.ensures.into_iter_gives.0) c.args.scheme c.args.tape c.args.width c.args.height
+    parts.0 parts.2 parts.3 c.new-maker.ensures.fresh shut
+
+pub returns-clause-conceals : goal.returns-clause-conceals
+returns-clause-conceals g c = c.new-maker.ensures.conceals
+
+pub returns-clause-shows : goal.returns-clause-shows
+returns-clause-shows g c = c.new-maker.ensures.shows

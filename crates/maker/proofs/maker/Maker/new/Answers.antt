@@ -1,18 +1,10 @@
-use Rattle.std.proofs.Common.{ℕ, refl, ap}
-use Rattle.maker.specs.Runs.{State}
 use Rattle.maker.proofs.Laws.{conceals, shows}
 use Rattle.maker.proofs.maker.Maker.new.Goals as goal
 
-pub returns : goal.returns
-returns g c =
-    let s = g.S.Scheme.means c.args.scheme in
-    let in_range = g.met.S.Scheme.in_range c.args.scheme in
-    let lawful = g.met.S.Scheme.lawful c.args.scheme in
-    let supplied : ℕ → State = λ supply. record { made = 0; spoiled = 0; supply = supply; tape = g.T.Tape.bytes c.args.tape } in
-    record {
-      fresh = ap supplied c.waiting-supply.ensures.counts;
-      parts = (refl, refl, refl, refl);
-      tape = record { long = refl; bytes = g.met.T.Tape.below c.args.tape };
-      conceals = conceals s in_range lawful c.args.width c.args.height;
-      shows = shows s in_range lawful c.args.width c.args.height;
-    }
+pub returns-clause-conceals : goal.returns-clause-conceals
+returns-clause-conceals g c =
+    conceals (g.S.Scheme.means c.args.scheme) (g.met.S.Scheme.in_range c.args.scheme) (g.met.S.Scheme.lawful c.args.scheme) c.args.width c.args.height
+
+pub returns-clause-shows : goal.returns-clause-shows
+returns-clause-shows g c =
+    shows (g.S.Scheme.means c.args.scheme) (g.met.S.Scheme.in_range c.args.scheme) (g.met.S.Scheme.lawful c.args.scheme) c.args.width c.args.height

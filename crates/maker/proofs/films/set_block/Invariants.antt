@@ -1,5 +1,0 @@
-use Rattle.maker.specs.Filling.{Blackened, block}
-use Rattle.maker.proofs.films.set_block.Given as goal
-
-abbrev pub invariant-loop-p : goal.invariant-loop-p
-invariant-loop-p l = Blackened l.n l.size l.initial.out l.out (block l.table l.order l.start l.p)
