@@ -6,7 +6,7 @@ use Rattle.std.proofs.lemmas.Bool.{cond-false, cases_Bool, le-ltb, ltb-false, le
 use Rattle.std.proofs.lemmas.Bool.Decides.{nat_tests}
 use Rattle.schemes.specs.Bits.{differ}
 use Rattle.cards.specs.Kinds.{kind_numbered}
-use Rattle.cards.specs.Format.{Contents, says, mapped_fields, kind_field, sets_field, card_bytes, Rising, IsCard, NoCard, Canonical}
+use Rattle.cards.specs.Format.{Contents, says, mapped_fields, kind_field, sets_field, card_bytes, Rising, IsCard, NoCard}
 use Rattle.cards.specs.Reading.{kind_at, count_at, sets_at, n_in, kind_in, count_in, sets_in, fields_end, rising_front, refuse_if, reading_by, reading}
 use Rattle.cards.specs.Writing.{first_set_at}
 use Rattle.cards.specs.declared.card.CardKind.{CardKind}
@@ -204,11 +204,3 @@ card_is_read bytes c p = ap reading p.layout ∙ read_laid c.kind c.n c.sets p.s
 
 pub refused_is_no_card : (bytes : List ℕ) (e : CardFault) → reading bytes ≡ Err e → NoCard bytes
 refused_is_no_card bytes e r c p = refused_or_read (sym r ∙ card_is_read bytes c p)
-
--- ---- equal cards
-
-pub canonical : Canonical
-canonical a b c d p q = (
-  λ e. let f = sym (card_is_read a c p) ∙ ap reading e ∙ card_is_read b d q in cc,
-  λ e. p.layout ∙ ap card_bytes e ∙ sym q.layout,
-)

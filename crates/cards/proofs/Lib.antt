@@ -1,4 +1,5 @@
 pub mod RisingFacts
+pub mod FieldFacts
 pub mod FormatFacts
 pub mod ContentsFacts
 pub mod AnswerFacts

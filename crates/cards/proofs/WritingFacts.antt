@@ -1,26 +1,18 @@
 -- What is written opens again, and whatever is acceptable is written.
-use Rattle.std.proofs.Common.{◌≡◌, ℕ, ◌+◌, ◌<◌, ◌≤◌, Bool, true, false, cond, not, ◌||◌, ltb, ◌⊎◌, List, [], ◌∷◌, length, is_some, IfOk, Some, None, Ok, Err, Option, Result, sym, refl, ap, ◌∙◌, subst, inl, inr, arith, MatchResult}
-use Rattle.std.specs.Option.{option_or}
+use Rattle.std.proofs.Common.{◌≡◌, ℕ, ◌+◌, Bool, true, false, cond, ltb, List, [], ◌∷◌, length, IfOk, Some, None, Ok, Err, Option, Result, sym, refl, ap, ◌∙◌, subst, inl, inr, arith, MatchResult}
 use Rattle.std.proofs.lemmas.Bool.{cond-false, le-ltb, ltb-false}
-use Rattle.std.proofs.lemmas.Bool.Decides.{nat_tests}
-use Rattle.schemes.specs.Meaning.{Meaning}
-use Rattle.schemes.specs.Refusals.{refusal_in, keyholders_from}
-use Rattle.schemes.specs.declared.keyholders.KeyholderSet.{KeyholderSet}
+use Rattle.schemes.specs.Refusals.{refusal_in}
 use Rattle.schemes.specs.declared.refusals.SchemeRefusal.{SchemeRefusal}
-use Rattle.schemes.specs.declared.refusals.SchemeRefusal.TheVariants.{ListLength}
-use Rattle.cumulative.specs.Access.{numbers}
-use Rattle.cumulative.specs.Making.{most_sets, making_refusal}
 use Rattle.cards.specs.Answers.{NoMemory, Answers}
 use Rattle.cards.specs.Format.{Contents, says, card_bytes, Rising, SetsByKind, IsCard}
 use Rattle.cards.specs.Reading.{rising_front, reading}
-use Rattle.cards.specs.Schemes.{refusal_of, meaning_of, made_in_memory, unless_refused, making, with_scheme, OpensAs}
-use Rattle.cards.specs.Writing.{stray_sets, unordered_sets, sets_fault, sets_fit, first_set_at, unless_faulty, writing, RefusesAsOpening, Acceptable}
+use Rattle.cards.specs.Schemes.{refusal_of, meaning_of, unless_refused, with_scheme, OpensAs}
+use Rattle.cards.specs.Writing.{stray_sets, unordered_sets, sets_fault, first_set_at, unless_faulty, writing, RefusesAsOpening, Acceptable}
 use Rattle.cards.specs.declared.card.CardKind.{CardKind}
 use Rattle.cards.specs.declared.card.CardKind.TheVariants.{AllOf, TwoOf, Sets}
 use Rattle.cards.specs.declared.faults.CardRefusal.TheVariants.{WrongSets}
 use Rattle.cards.specs.declared.faults.CardFault.{CardFault}
-use Rattle.cards.specs.declared.faults.CardFault.TheVariants.{Format, Scheme}
-use Rattle.cards.proofs.ContentsFacts.{numbers_length}
+use Rattle.cards.specs.declared.faults.CardFault.TheVariants.{Format}
 use Rattle.cards.proofs.FormatFacts.{card_is_read, read_sets}
 use Rattle.cards.proofs.RisingFacts.{rises, all_rise}
 
@@ -36,14 +28,6 @@ test_failed false x e = refl
 none_stray : (sets : List ℕ) → stray_sets sets ≡ None → sets ≡ []
 none_stray [] e = refl
 none_stray (x ∷ sets) e = absurd (some_or_none e)
-
-pub none_given : (sets : List ℕ) → length sets ≡ 0 → None ≡ stray_sets sets
-none_given [] e = refl
-none_given (x ∷ sets) e = absurd (omega arith)
-
-pub some_given : (sets : List ℕ) → (length sets ≡ 0 → ⊥) → Some (Format WrongSets 0) ≡ stray_sets sets
-some_given [] never = absurd (never refl)
-some_given (x ∷ sets) never = refl
 
 in_order : (n : ℕ) (sets : List ℕ) → unordered_sets n sets ≡ None → Rising sets
 in_order n sets e = rises sets (ltb-false (rising_front sets) (length sets) (test_failed (ltb (rising_front sets) (length sets)) _ e))
@@ -85,42 +69,6 @@ acceptable_written c a =
     ap (λ f. unless_faulty f (unless_refused (refusal_of c.kind c.n c.sets) (card_bytes c)))
     (none_faulty c.kind c.n c.sets a.sets_by_kind a.rising_order)
     ∙ ap (λ r. unless_refused r (card_bytes c)) a.scheme_made
-
--- ---- the ways out of `write`
-
-pub sets_refused : (c : Contents) (why : CardFault) → sets_fault c.kind c.n c.sets ≡ Some why → writing c ≡ Err why
-sets_refused c why e = ap (λ f. unless_faulty f (unless_refused (refusal_of c.kind c.n c.sets) (card_bytes c))) e
-
-sets_pass : (c : Contents) → sets_fault c.kind c.n c.sets ≡ None → sets_fit c ≡ true
-sets_pass c e = ap (λ f. not (is_some {T = CardFault} f)) e
-
-same_refusal : {A B : Type 0} (refusal : Option SchemeRefusal) (a : A) (b : B) (why : CardFault)
-    → unless_refused refusal a ≡ Err why → unless_refused refusal b ≡ Err why
-same_refusal None a b why e = let z : ◌≡◌ {A = ℕ} 0 1 = cc in absurd (omega arith)
-same_refusal (Some inner) a b why e = let f : Scheme inner ≡ why = cc in ap Err f
-
-none_refused : {A : Type 0} (refusal : Option SchemeRefusal) (a b : A) → unless_refused refusal a ≡ Ok b → refusal ≡ None
-none_refused None a b e = refl
-none_refused (Some inner) a b e = let z : ◌≡◌ {A = ℕ} 0 1 = cc in absurd (omega arith)
-
--- the scheme's refusal is passed on; where there is no memory for the scheme, that is
-pub scheme_refused : (c : Contents) (inner why : CardFault) → why ≡ inner → sets_fault c.kind c.n c.sets ≡ None
-    → (making c ≡ Err inner) ⊎ (NoMemory inner × (made_in_memory c.kind ≡ true)) → (writing c ≡ Err why) ⊎ (NoMemory why × (sets_fit c ≡ true))
-scheme_refused c inner why same e (inl r) =
-    inl (ap (λ f. unless_faulty f (unless_refused (refusal_of c.kind c.n c.sets) (card_bytes c))) e
-    ∙ same_refusal (refusal_of c.kind c.n c.sets) _ (card_bytes c) inner r ∙ ap Err (sym same))
-scheme_refused c inner why same e (inr p) = inr (subst NoMemory (sym same) p.0, sets_pass c e)
-
-pub scheme_is_made : (c : Contents) (s : Meaning) → making c ≡ Ok s → refusal_of c.kind c.n c.sets ≡ None
-scheme_is_made c s r = none_refused (refusal_of c.kind c.n c.sets) _ s r
-
-pub written_answer : {A : Type 0} (meaning : A → List ℕ) (c : Contents) (r : Result A CardFault)
-    → sets_fault c.kind c.n c.sets ≡ None → refusal_of c.kind c.n c.sets ≡ None
-    → MatchResult r (λ v. meaning v ≡ card_bytes c) NoMemory → Answers meaning (writing c) (sets_fit c) r
-written_answer meaning c (Ok v) e r is =
-    ap (λ f. unless_faulty f (unless_refused (refusal_of c.kind c.n c.sets) (card_bytes c))) e
-    ∙ ap (λ f. unless_refused f (card_bytes c)) r ∙ ap Ok (sym is)
-written_answer meaning c (Err why) e r none = inr (none, sets_pass c e)
 
 -- ---- what opening the bytes answers
 
@@ -172,22 +120,3 @@ pub every_card : {A : Type 0} (meaning : A → List ℕ) (c : Contents) (needed 
 every_card meaning c needed (Ok v) e a = let f = sym e ∙ acceptable_written c a in cc
 every_card meaning c needed (Err why) (inl e) a = let z : ◌≡◌ {A = ℕ} 0 1 = cc (acceptable_written c a) in absurd (omega arith)
 every_card meaning c needed (Err why) (inr p) a = p.0
-
--- ---- a list that makes a scheme is short
-
-or_none : {A : Type 0} (a b : Option A) → option_or a b ≡ None → (a ≡ None) × (b ≡ None)
-or_none None b e = (refl, e)
-or_none (Some x) b e = absurd (some_or_none e)
-
-short_test : (k : ℕ) → (ltb k 1 || ltb most_sets k) ≡ false → k ≤ most_sets
-short_test k e = grind (arith, nat_tests)
-
-making_short : (n : ℕ) (sets : List ℕ) → making_refusal n sets ≡ None → length sets ≤ most_sets
-making_short n sets e =
-    short_test (length sets)
-    (test_failed (ltb (length sets) 1 || ltb most_sets (length sets)) ListLength (or_none _ _ (or_none (keyholders_from 1 n) _ e).1).0)
-
-pub few_sets : (kind : CardKind) (n : ℕ) (sets : List KeyholderSet) → refusal_of kind n (numbers sets) ≡ None → kind ≡ Sets → length sets < 256
-few_sets AllOf n sets e is = let z : ◌≡◌ {A = ℕ} 0 1 = cc in absurd (omega arith)
-few_sets TwoOf n sets e is = let z : ◌≡◌ {A = ℕ} 0 1 = cc in absurd (omega arith)
-few_sets Sets n sets e is = omega (arith, making_short n (numbers sets) e, numbers_length sets)

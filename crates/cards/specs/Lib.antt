@@ -1,10 +1,12 @@
 pub mod Answers
 pub mod Contents
+pub mod Fields
 pub mod Format
 pub mod Kinds
 pub mod Meanings
 pub mod Reading
 pub mod Refusals
+pub mod Rising
 pub mod SchemeOfSets
 pub mod Schemes
 pub mod Worked

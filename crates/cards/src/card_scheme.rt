@@ -33,6 +33,7 @@ impl Scheme for CardScheme {
       | Sets s ↦ cumulative_lawful s.n (numbers s.minimal.items) (proper_sets s)
     ] };
 
+    // Each method matches for itself: `rt ci` refuses a function that hands out the scheme inside as a `&dyn Scheme`.
     fn keyholders(&self) -> u8 {
         match self {
             CardScheme::All(scheme) => scheme.keyholders(),

@@ -7,19 +7,19 @@ use schemes::SchemeRefusal;
 use std::alloc::{AllocError, AllocFailed};
 use std::fmt;
 
-// Which rule of the format a card breaks.
+// Which rule of the format a card breaks, with the refusal's number.
 #[derive(Clone, Copy, PartialEq, Eq, Debug)]
 pub enum CardRefusal {
     // The card is empty, or its map has a bit that stands for no field.
-    WrongMap,
+    WrongMap = 12,
     // The card ends before its fields do.
-    EndsEarly,
+    EndsEarly = 13,
     // n is written although it is 2, or the kind is neither 2 nor 3.
-    WrongValue,
+    WrongValue = 14,
     // Bytes follow the last field.
-    BytesLeftOver,
+    BytesLeftOver = 15,
     // There are sets and the kind is not 3, or the other way round; or a set is not above the one before it.
-    WrongSets,
+    WrongSets = 16,
 }
 
 impl CardRefusal {
@@ -27,13 +27,7 @@ impl CardRefusal {
     pub fn number(self) -> u8
         ensures { result ≡ refusal_number self }
     {
-        match self {
-            CardRefusal::WrongMap => 12,
-            CardRefusal::EndsEarly => 13,
-            CardRefusal::WrongValue => 14,
-            CardRefusal::BytesLeftOver => 15,
-            CardRefusal::WrongSets => 16,
-        }
+        self as u8
     }
 
     fn words(self) -> &'static str {
@@ -60,7 +54,8 @@ pub enum CardFault {
 }
 
 impl CardFault {
-    // The number of the refusal, 7 to 16; 0 for want of memory.
+    // The number of the refusal, 7 to 16.
+    // By a match, since two of the variants hold a value; `Memory` has 0, since it is no refusal of the rules.
     pub fn number(self) -> u8
         ensures { result ≡ fault_number self }
     {
@@ -71,7 +66,8 @@ impl CardFault {
         }
     }
 
-    // The place of the fault: a byte of the card for 12 to 16, a set of its list for 9 and 10, and else 0.
+    // The place of the fault: a byte of the card for 12 to 16, a set of its list for 9 and 10.
+    // 0 where it is about none, as docs/REFUSALS.md fixes it.
     pub fn place(self) -> usize
         ensures { result ≡ fault_place self }
     {

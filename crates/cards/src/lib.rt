@@ -6,6 +6,7 @@ mod card_scheme;
 mod faults;
 mod opening;
 mod reading;
+mod rising;
 #[cfg(test)]
 mod tests;
 mod writing;

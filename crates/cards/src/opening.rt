@@ -29,18 +29,9 @@ pub fn scheme(heap: Global, card: &Card) -> Result<CardScheme, CardFault>
     ensures answers { Answers scheme_meaning (making (contents card.now)) (made_in_memory card.now.kind) result }
 {
     match card.kind {
-        CardKind::AllOf => {
-            let all = AllOf::new(card.n)?;
-            Ok(CardScheme::All(all))
-        }
-        CardKind::TwoOf => {
-            let two = TwoOf::new(card.n)?;
-            Ok(CardScheme::Two(two))
-        }
-        CardKind::Sets => {
-            let of_sets = scheme_of_sets(heap, card.n, &card.sets)?;
-            Ok(CardScheme::Sets(of_sets))
-        }
+        CardKind::AllOf => Ok(CardScheme::All(AllOf::new(card.n)?)),
+        CardKind::TwoOf => Ok(CardScheme::Two(TwoOf::new(card.n)?)),
+        CardKind::Sets => Ok(CardScheme::Sets(scheme_of_sets(heap, card.n, &card.sets)?)),
     }
 }
 

@@ -89,10 +89,8 @@ fn check_card(
     let (card, named) = open(heap, bytes)?;
     assert_eq!(rt; card.kind, kind);
     assert_eq!(rt; card.n, n);
-    assert_eq!(rt; card.sets.len(), sets.len());
-    for (set, number) in card.sets.iter().zip(sets.iter()) {
-        assert_eq!(rt; set.bits(), *number);
-    }
+    let numbers: Vec<u8> = card.sets.iter().map(|set| set.bits()).collect(heap)?;
+    assert_eq!(rt; numbers.as_slice(), sets);
     assert_eq!(rt; named.keyholders(), n);
     assert_eq!(rt; named.columns(), columns);
     assert!(rt; write(heap, &card)?.as_slice() == bytes);
@@ -125,10 +123,10 @@ fn write_fault(
     n: u8,
     numbers: &[u8],
 ) -> Result<Option<(u8, usize)>, AllocError> {
-    let mut sets = Vec::new(heap);
-    for number in numbers {
-        sets.push(KeyholderSet::from_bits(*number))?;
-    }
+    let sets = numbers
+        .iter()
+        .map(|number| KeyholderSet::from_bits(*number))
+        .collect(heap)?;
     match write(heap, &Card { kind, n, sets }) {
         Ok(_) => Ok(None),
         Err(fault) => Ok(Some((fault.number(), fault.place()))),

@@ -1,40 +1,19 @@
 // Writing a card: what no card can say is refused, and the rest is laid out field by field.
-ghost use Rattle.std.specs.Prelude.{◌≡◌, ◌<◌, [], ◌∷◌, ◌++◌, length, IfOk, MatchResult};
+ghost use Rattle.std.specs.Prelude.{◌≡◌, ◌<◌, [], ◌∷◌, ◌++◌, length, option_map, IfOk, MatchResult};
 ghost use Rattle.schemes.specs.Refusals.{refusal_in};
 ghost use Rattle.cumulative.specs.Access.{numbers};
 ghost use Rattle.cards.specs.Answers.{NoMemory, Answers};
 ghost use Rattle.cards.specs.Contents.{contents};
 ghost use Rattle.cards.specs.Format.{map_from, field_bytes, n_field, kind_field, sets_field, card_fields, card_bytes};
-ghost use Rattle.cards.specs.Reading.{rising_front};
 ghost use Rattle.cards.specs.Schemes.{OpensAs};
 ghost use Rattle.cards.specs.declared.card.CardKind.TheVariants.{Sets};
-ghost use Rattle.cards.specs.Writing.{first_set_at, stray_sets, unordered_sets, sets_fault, sets_fit, writing, RefusesAsOpening, Acceptable};
+ghost use Rattle.cards.specs.Writing.{first_set_at, sets_fault, sets_fit, writing, RefusesAsOpening, Acceptable};
 
-use crate::card::UNWRITTEN_N;
+use crate::card::{KIND_BIT, N_BIT, SETS_BIT, UNWRITTEN_N};
+use crate::rising::check_rising;
 use crate::{Card, CardFault, CardKind, CardRefusal, scheme};
 use schemes::KeyholderSet;
 use std::alloc::Global;
-
-// The bits of the fields in the map.
-const N_BIT: u8 = 1;
-
-const KIND_BIT: u8 = 2;
-
-const SETS_BIT: u8 = 4;
-
-// How many sets stand before the first that is not above the one before it.
-fn count_rising(sets: &[KeyholderSet]) -> usize
-    ensures { result ≡ rising_front (numbers sets.now) }
-{
-    if sets.is_empty() {
-        return 0;
-    }
-    let mut front = 1;
-    while front < sets.len() && sets[front - 1].bits() < sets[front].bits() {
-        front += 1;
-    }
-    front
-}
 
 // The place of the first set: after the map, n where it is written, the kind and the count.
 fn first_set_at(n: u8) -> usize
@@ -43,35 +22,14 @@ fn first_set_at(n: u8) -> usize
     if n == UNWRITTEN_N { 3 } else { 4 }
 }
 
-// That a kind which has no sets is given none.
-fn check_none(sets: &[KeyholderSet]) -> Result<(), CardFault>
-    ensures { refusal_in result ≡ stray_sets (numbers sets.now) }
-{
-    if sets.is_empty() {
-        return Ok(());
-    }
-    Err(CardFault::Format(CardRefusal::WrongSets, 0))
-}
-
-// That each set is above the one before it.
-fn check_order(n: u8, sets: &[KeyholderSet]) -> Result<(), CardFault>
-    ensures { refusal_in result ≡ unordered_sets n (numbers sets.now) }
-{
-    let front = count_rising(sets);
-    if front < sets.len() {
-        let place = first_set_at(n) + front;
-        return Err(CardFault::Format(CardRefusal::WrongSets, place));
-    }
-    Ok(())
-}
-
-// That a card of this kind can hold these sets.
+// That a card of this kind can hold these sets: none unless the kind is `Sets`, and each above the one before it.
 fn check_sets(kind: CardKind, n: u8, sets: &[KeyholderSet]) -> Result<(), CardFault>
     ensures { refusal_in result ≡ sets_fault kind n (numbers sets.now) }
 {
     match kind {
-        CardKind::AllOf | CardKind::TwoOf => check_none(sets),
-        CardKind::Sets => check_order(n, sets),
+        CardKind::AllOf | CardKind::TwoOf if sets.is_empty() => Ok(()),
+        CardKind::AllOf | CardKind::TwoOf => Err(CardFault::Format(CardRefusal::WrongSets, 0)),
+        CardKind::Sets => check_rising(sets, first_set_at(n)),
     }
 }
 
@@ -79,53 +37,45 @@ fn check_sets(kind: CardKind, n: u8, sets: &[KeyholderSet]) -> Result<(), CardFa
 fn map_of(card: &Card) -> u8
     ensures { result ≡ map_from 0 (card_fields (contents card.now)) }
 {
-    let n_bit = if card.n == UNWRITTEN_N { 0 } else { N_BIT };
-    match card.kind {
-        CardKind::AllOf => n_bit,
-        CardKind::TwoOf => n_bit + KIND_BIT,
-        CardKind::Sets => n_bit + KIND_BIT + SETS_BIT,
-    }
+    N_BIT * u8::from(card.n != UNWRITTEN_N)
+        + KIND_BIT * u8::from(card.kind != CardKind::AllOf)
+        + SETS_BIT * u8::from(card.kind == CardKind::Sets)
 }
 
-// The three fields: each is pushed unless it is left out.
-fn push_n(bytes: &mut Vec<u8>, n: u8) -> Result<(), CardFault>
-    ensures { MatchResult result (λ _. bytes.new.items ≡ bytes.old.items ++ field_bytes (n_field n ∷ [])) NoMemory }
+// n, unless it is left out.
+fn written_n(n: u8) -> Option<u8>
+    ensures { option_map (λ byte. byte ∷ []) result ≡ n_field n }
 {
-    if n != UNWRITTEN_N {
-        bytes.push(n)?;
+    (n != UNWRITTEN_N).then_some(n)
+}
+
+// The kind's number, unless it is left out.
+fn written_kind(kind: CardKind) -> Option<u8>
+    ensures { option_map (λ byte. byte ∷ []) result ≡ kind_field kind }
+{
+    (kind != CardKind::AllOf).then_some(kind.number())
+}
+
+// Pushes a byte, unless it is left out.
+fn push_byte(bytes: &mut Vec<u8>, byte: Option<u8>) -> Result<(), CardFault>
+    ensures { MatchResult result (λ _. bytes.new.items ≡ bytes.old.items ++ field_bytes (option_map (λ byte. byte ∷ []) byte ∷ [])) NoMemory }
+{
+    if let Some(byte) = byte {
+        bytes.push(byte)?;
     }
     Ok(())
 }
 
-fn push_kind(bytes: &mut Vec<u8>, kind: CardKind) -> Result<(), CardFault>
-    ensures { MatchResult result (λ _. bytes.new.items ≡ bytes.old.items ++ field_bytes (kind_field kind ∷ [])) NoMemory }
-{
-    if kind != CardKind::AllOf {
-        bytes.push(kind.number())?;
-    }
-    Ok(())
-}
-
-fn push_numbers(bytes: &mut Vec<u8>, sets: &[KeyholderSet]) -> Result<(), CardFault>
-    ensures { MatchResult result (λ _. bytes.new.items ≡ bytes.old.items ++ numbers sets.now) NoMemory }
-{
-    for set in sets {
-        bytes.push(set.bits())?;
-    }
-    Ok(())
-}
-
+// Pushes the count of the sets and the sets, for the kind that has them.
 fn push_sets(bytes: &mut Vec<u8>, kind: CardKind, sets: &[KeyholderSet]) -> Result<(), CardFault>
     requires { kind ≡ Sets → length sets.now < 256 }
     ensures { MatchResult result (λ _. bytes.new.items ≡ bytes.old.items ++ field_bytes (sets_field kind (numbers sets.now) ∷ [])) NoMemory }
 {
-    match kind {
-        CardKind::AllOf | CardKind::TwoOf => Ok(()),
-        CardKind::Sets => {
-            bytes.push(sets.len() as u8)?;
-            push_numbers(bytes, sets)
-        }
+    if kind == CardKind::Sets {
+        bytes.push(sets.len() as u8)?;
+        bytes.extend(sets.iter().map(|set| set.bits()))?;
     }
+    Ok(())
 }
 
 // The bytes of the card.
@@ -135,8 +85,8 @@ fn lay_out(heap: Global, card: &Card) -> Result<Vec<u8>, CardFault>
 {
     let mut bytes = Vec::new(heap);
     bytes.push(map_of(card))?;
-    push_n(&mut bytes, card.n)?;
-    push_kind(&mut bytes, card.kind)?;
+    push_byte(&mut bytes, written_n(card.n))?;
+    push_byte(&mut bytes, written_kind(card.kind))?;
     push_sets(&mut bytes, card.kind, &card.sets)?;
     Ok(bytes)
 }

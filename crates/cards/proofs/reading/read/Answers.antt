@@ -1,32 +1,22 @@
-use Rattle.std.proofs.Common.{Ok, Err, sym, ap, ◌∙◌, inl, inr}
-use Rattle.std.proofs.lemmas.Result.{err_from_is_err_and}
-use Rattle.cards.specs.Answers.{NoMemory}
+use Rattle.std.proofs.Common.{rules, ◌≡◌, Ok, vec_items}
+use Rattle.cumulative.specs.Access.{numbers}
+use Rattle.cards.specs.Answers.{Answers}
 use Rattle.cards.specs.Contents.{contents}
 use Rattle.cards.specs.Format.{says}
 use Rattle.cards.specs.Reading.{reading}
 use Rattle.cards.specs.Schemes.{names_sets}
-use Rattle.cards.proofs.AnswerFacts.{answers_err, exactly_cards, read_names_sets}
-use Rattle.cards.proofs.FormatFacts.{read_is_card, canonical}
+use Rattle.cards.proofs.AnswerFacts.{exactly_cards}
+use Rattle.cards.proofs.FormatFacts.{read_is_card}
 use Rattle.cards.proofs.reading.read.Goals as goal
 
-pub returns-in_err-fields : goal.returns-in_err-fields
-returns-in_err-fields c =
+pub returns-in_err-fields-clause-exactly_cards : goal.returns-in_err-fields-clause-exactly_cards
+returns-in_err-fields-clause-exactly_cards c =
     let bytes = c.args.bytes.now in
-    let p = err_from_is_err_and c.from_residual.result c.from_residual.ensures.1 in
-    let a = answers_err contents (reading bytes) (names_sets (reading bytes)) p.1 (inl (c.in_err-fields.ensures ∙ ap Err (sym p.2))) in
-    record { answers = a; exactly_cards = exactly_cards contents bytes (names_sets (reading bytes)) _ a; canonical = canonical }
+    let a : Answers contents (reading bytes) (names_sets (reading bytes)) c.from_residual.result = search rules in
+    exactly_cards contents bytes (names_sets (reading bytes)) c.from_residual.result a
 
-pub returns-in_err-sets : goal.returns-in_err-sets
-returns-in_err-sets c =
-    let bytes = c.args.bytes.now in
-    let p = err_from_is_err_and c.from_residual-in_err-sets.result c.from_residual-in_err-sets.ensures.1 in
-    let none : NoMemory p.0 = rw p.2 c.in_err-sets.ensures.0 in
-    let a = answers_err contents (reading bytes) (names_sets (reading bytes)) p.1 (inr (none, read_names_sets bytes _ c.in_ok-fields.ensures c.in_err-sets.ensures.1)) in
-    record { answers = a; exactly_cards = exactly_cards contents bytes (names_sets (reading bytes)) _ a; canonical = canonical }
-
-pub returns : goal.returns
-returns c =
-    let bytes = c.args.bytes.now in
-    let is = c.in_ok-fields.fields in
-    let a = c.in_ok-fields.ensures ∙ ap (λ l. Ok (says is.kind is.n l)) (sym c.in_ok-sets.ensures) in
-    record { answers = a; exactly_cards = read_is_card bytes _ a; canonical = canonical }
+pub returns-clause-exactly_cards : goal.returns-clause-exactly_cards
+returns-clause-exactly_cards c =
+    let fields = c.in_ok-fields.fields in
+    let a : reading c.args.bytes.now ≡ Ok (says fields.kind fields.n (numbers (vec_items c.in_ok-sets.sets))) = search rules in
+    read_is_card c.args.bytes.now _ a
