@@ -4,122 +4,57 @@ use cards::CardFault;
 use lightbox::ContrastRefusal;
 use maker::RowRefusal;
 use pictures::{HeadRefusal, PictureFault};
-use schemes::{KeyholderSet, SchemeRefusal};
-use std::alloc::{AllocError, AllocFailed};
-use std::{fmt, io};
+use schemes::KeyholderSet;
+use std::alloc::AllocError;
+use std::io;
+use thiserror::Error;
 
-#[derive(Drop)]
+#[derive(Debug, Drop, Error)]
 pub enum Failure {
     // The words are not a command.
+    #[error("{text}", text = usage::TEXT)]
     Usage,
     // The number of columns is not that of a block.
+    #[error("weldlatch: a block has 1 to 128 columns")]
     NoBlock,
     // A word is no set of keyholders.
+    #[error("weldlatch: a set is written as 1,3, of keyholders 1 to 8")]
     NoSet,
-    // A scheme was not made.
-    Scheme(SchemeRefusal),
-    // A card was not read or not written.
-    Card(CardFault),
+    // A card was not read or not written, or a scheme was not made.
+    #[error("weldlatch: {0}")]
+    Card(#[from] CardFault),
     // A picture was not opened.
-    Picture(PictureFault),
+    #[error("weldlatch: {0}")]
+    Picture(#[from] PictureFault),
     // The head of a film was not written.
-    Head(HeadRefusal),
+    #[error("weldlatch: {0}")]
+    Head(#[from] HeadRefusal),
     // A set has no contrast.
-    Contrast(ContrastRefusal),
+    #[error("weldlatch: {0}")]
+    Contrast(#[from] ContrastRefusal),
     // A row was not made: why, which row, and of how many bytes the tape was.
-    Row(RowRefusal, u32, usize),
+    #[error("weldlatch: {why} (row {row}, a tape of {supply} bytes)")]
+    Row {
+        why: RowRefusal,
+        row: u32,
+        supply: usize,
+    },
     // A row did not read back through this set.
+    #[error("weldlatch: a row did not read back through the set {0}")]
     NotReadBack(KeyholderSet),
     // The run ended before every row was made.
+    #[error("weldlatch: the run ended before every row was made")]
     BrokenOff,
     // A file of this name exists.
+    #[error("weldlatch: {0} exists; --force overwrites it")]
     Exists(String),
     // A file of this name failed.
+    #[error("weldlatch: {0}: {1}")]
     File(String, io::Error),
     // Standard input or output, or an argument, failed.
-    Io(io::Error),
+    #[error("weldlatch: {0}")]
+    Io(#[from] io::Error),
     // There is no memory left.
-    Memory,
-}
-
-impl From<SchemeRefusal> for Failure {
-    fn from(why: SchemeRefusal) -> Failure {
-        Failure::Scheme(why)
-    }
-}
-
-impl From<CardFault> for Failure {
-    fn from(why: CardFault) -> Failure {
-        Failure::Card(why)
-    }
-}
-
-impl From<PictureFault> for Failure {
-    fn from(why: PictureFault) -> Failure {
-        Failure::Picture(why)
-    }
-}
-
-impl From<HeadRefusal> for Failure {
-    fn from(why: HeadRefusal) -> Failure {
-        Failure::Head(why)
-    }
-}
-
-impl From<ContrastRefusal> for Failure {
-    fn from(why: ContrastRefusal) -> Failure {
-        Failure::Contrast(why)
-    }
-}
-
-impl From<io::Error> for Failure {
-    fn from(why: io::Error) -> Failure {
-        Failure::Io(why)
-    }
-}
-
-impl From<AllocError> for Failure {
-    fn from(_why: AllocError) -> Failure {
-        Failure::Memory
-    }
-}
-
-impl<T: Drop> From<AllocFailed<T>> for Failure {
-    fn from(_why: AllocFailed<T>) -> Failure {
-        Failure::Memory
-    }
-}
-
-impl fmt::Display for Failure {
-    fn fmt<W: fmt::Write>(&self, f: &mut fmt::Formatter<W>) -> fmt::Result {
-        match self {
-            Failure::Usage => write!(f, "{}", usage::TEXT),
-            Failure::NoBlock => write!(f, "weldlatch: a block has 1 to 128 columns"),
-            Failure::NoSet => write!(
-                f,
-                "weldlatch: a set is written as 1,3, of keyholders 1 to 8"
-            ),
-            Failure::Scheme(why) => write!(f, "weldlatch: {why}"),
-            Failure::Card(why) => write!(f, "weldlatch: {why}"),
-            Failure::Picture(why) => write!(f, "weldlatch: {why}"),
-            Failure::Head(why) => write!(f, "weldlatch: {why}"),
-            Failure::Contrast(why) => write!(f, "weldlatch: {why}"),
-            Failure::Row(why, row, supply) => {
-                write!(f, "weldlatch: {why} (row {row}, a tape of {supply} bytes)")
-            }
-            Failure::NotReadBack(set) => {
-                write!(
-                    f,
-                    "weldlatch: a row did not read back through the set {set}"
-                )
-            }
-            Failure::BrokenOff => write!(f, "weldlatch: the run ended before every row was made"),
-            Failure::Exists(name) => {
-                write!(f, "weldlatch: {name} exists; --force overwrites it")
-            }
-            Failure::File(name, why) => write!(f, "weldlatch: {name}: {why}"),
-            Failure::Io(why) => write!(f, "weldlatch: {why}"),
-            Failure::Memory => write!(f, "weldlatch: no memory left"),
-        }
-    }
+    #[error("weldlatch: no memory left")]
+    Memory(#[from(alloc)] AllocError),
 }

@@ -1,15 +1,20 @@
 // The command `levels`: light, dark and squares of a set, or of every minimal qualified set.
 use crate::failure::Failure;
-use crate::sets::minimal_sets;
 use crate::{arguments, files};
 use cards::CardScheme;
-use lightbox::contrast;
-use schemes::{KeyholderSet, Scheme};
+use films::minimal_sets;
+use lightbox::{Contrast, contrast};
+use schemes::KeyholderSet;
 
 // The contrast of one set.
 fn print_levels(rt: &HostRuntime, scheme: &CardScheme, set: KeyholderSet) -> Result<(), Failure> {
-    let (light, dark, m) = contrast(scheme, set)?;
-    println!(rt; "set {set}: light {light} dark {dark} of {m} squares")?;
+    let Contrast {
+        light,
+        dark,
+        columns,
+        ..
+    } = contrast(scheme, set)?;
+    println!(rt; "set {set}: light {light} dark {dark} of {columns} squares")?;
     Ok(())
 }
 
@@ -18,12 +23,10 @@ pub fn run(rt: &HostRuntime, words: &[String]) -> Result<(), Failure> {
     let [card, rest @ ..] = words else {
         return Err(Failure::Usage);
     };
-    let bytes = files::read(rt, card.as_str())?;
-    let (_card, scheme) = cards::open(rt.alloc(), &bytes)?;
+    let (_card, scheme) = files::open_card(rt, card.as_str())?;
     match rest {
         [] => {
-            let sets = minimal_sets(rt.alloc(), &scheme)?;
-            for set in sets.iter() {
+            for set in minimal_sets(rt.alloc(), &scheme)?.iter() {
                 print_levels(rt, &scheme, *set)?;
             }
             Ok(())

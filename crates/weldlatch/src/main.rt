@@ -5,41 +5,42 @@ mod arguments;
 mod card;
 mod failure;
 mod files;
-mod films;
+mod film_files;
 mod levels;
 mod make;
 mod order;
 mod progress;
+mod reader;
 mod report;
 mod scheme;
-mod sets;
 mod show;
+mod text;
 mod usage;
 
 use failure::Failure;
 use std::env;
 use std::process::ExitCode;
 
-fn run(rt: &HostRuntime) -> Result<(), Failure> {
-    let mut args = env::args(rt)?;
-    let _program = args.next();
-    let words: Vec<String> = args.collect(rt.alloc())?;
-    let Some(command) = words.first() else {
-        println!(rt; "{}", usage::TEXT)?;
-        return Ok(());
-    };
-    let rest = &words[1..];
-    match command.as_str() {
-        "card" => card::run(rt, rest)?,
-        "help" => println!(rt; "{}", usage::TEXT)?,
-        "levels" => levels::run(rt, rest)?,
-        "make" => make::run(rt, rest)?,
-        "order" => order::run(rt, rest)?,
-        "scheme" => scheme::run(rt, rest)?,
-        "show" => show::run(rt, rest)?,
-        _ => return Err(Failure::Usage),
-    }
+fn print_usage(rt: &HostRuntime) -> Result<(), Failure> {
+    println!(rt; "{}", usage::TEXT)?;
     Ok(())
+}
+
+fn run(rt: &HostRuntime) -> Result<(), Failure> {
+    let words: Vec<String> = env::args(rt)?.skip(1).collect(rt.alloc())?;
+    let Some((command, rest)) = words.split_first() else {
+        return print_usage(rt);
+    };
+    match command.as_str() {
+        "card" => card::run(rt, rest),
+        "help" => print_usage(rt),
+        "levels" => levels::run(rt, rest),
+        "make" => make::run(rt, rest),
+        "order" => order::run(rt, rest),
+        "scheme" => scheme::run(rt, rest),
+        "show" => show::run(rt, rest),
+        _ => Err(Failure::Usage),
+    }
 }
 
 // A failure goes to standard error, and ends the program with status 1.

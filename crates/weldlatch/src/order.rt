@@ -1,30 +1,18 @@
 // The command `order`: the column order that bytes spell.
 use crate::arguments;
 use crate::failure::Failure;
-use std::alloc::{AllocError, Global};
+use crate::text::Words;
+use schemes::MOST_COLUMNS;
+use std::alloc::Global;
 use tapes::{NoiseTape, Tape, draw_order};
 
-// The most columns of a block.
-const MOST_COLUMNS: usize = 128;
-
 // The bytes that the words name.
+// A chain as in `arguments`: a function of both would take what reads a word and what fails where it does not.
 fn bytes_of(heap: Global, words: &[String]) -> Result<Vec<u8>, Failure> {
-    let mut bytes = Vec::new(heap);
-    for word in words {
-        let byte = arguments::byte(word.as_str()).ok_or(Failure::Usage)?;
-        bytes.push(byte)?;
-    }
-    Ok(bytes)
-}
-
-// The columns in their order, as words.
-fn text_of(heap: Global, order: &[u8]) -> Result<String, AllocError> {
-    let mut text = String::from_str(heap, "order")?;
-    for column in order {
-        let word = format!(in heap; " {column}")?;
-        text.push_str(word.as_str())?;
-    }
-    Ok(text)
+    words
+        .iter()
+        .map(|word| arguments::byte(word.as_str()).ok_or(Failure::Usage))
+        .try_collect(heap)
 }
 
 // `order M BYTE..`
@@ -32,16 +20,15 @@ pub fn run(rt: &HostRuntime, words: &[String]) -> Result<(), Failure> {
     let [columns, bytes @ ..] = words else {
         return Err(Failure::Usage);
     };
-    let columns = arguments::number(columns.as_str()).ok_or(Failure::Usage)? as usize;
-    if columns < 1 || columns > MOST_COLUMNS {
+    let columns = arguments::small_number(columns.as_str()).ok_or(Failure::Usage)?;
+    if !(1..=MOST_COLUMNS).contains(&columns) {
         return Err(Failure::NoBlock);
     }
     let mut tape = NoiseTape::new(bytes_of(rt.alloc(), bytes)?);
     let all = tape.waiting();
-    let mut order = [0; MOST_COLUMNS];
-    let block = &mut order[0..columns];
-    match draw_order(&mut tape, block) {
-        Some(()) => println!(rt; "{}", text_of(rt.alloc(), block)?)?,
+    let mut order = vec![in rt.alloc(); 0; usize::from(columns)]?;
+    match draw_order(&mut tape, &mut order) {
+        Some(()) => println!(rt; "order{}", Words(&order))?,
         None => println!(rt; "the tape ended before the order of {columns} columns was drawn")?,
     }
     let taken = all.saturating_sub(tape.waiting());

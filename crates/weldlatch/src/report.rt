@@ -1,8 +1,9 @@
 // Schemes as text.
+use crate::text::{write_digits, write_words};
 use cards::CardScheme;
 use cumulative::Cumulative;
-use schemes::{Colour, KeyholderSet, MOST_KEYHOLDERS, Scheme, levels_of};
-use std::alloc::{AllocError, Global};
+use schemes::{Colour, KeyholderSet, Levels, MOST_KEYHOLDERS, Scheme, levels_of};
+use std::fmt;
 
 // What kind of scheme it is, in words.
 pub fn name(scheme: &CardScheme) -> &'static str {
@@ -14,101 +15,77 @@ pub fn name(scheme: &CardScheme) -> &'static str {
 }
 
 // A keyholder's cells for a colour, column by column.
-fn cells<S: Scheme>(
-    heap: Global,
-    scheme: &S,
+#[derive(Clone, Copy)]
+struct Cells<'a> {
+    scheme: &'a CardScheme,
     colour: Colour,
     keyholder: u8,
-) -> Result<String, AllocError> {
-    let mut text = String::new(heap);
-    for column in 0..scheme.columns() {
-        text.push(if scheme.cell(colour, keyholder, column) {
-            '1'
-        } else {
-            '0'
-        })?;
+}
+
+impl fmt::Display for Cells<'_> {
+    fn fmt<W: fmt::Write>(&self, f: &mut fmt::Formatter<W>) -> fmt::Result {
+        let columns = 0..self.scheme.columns();
+        write_digits(
+            f,
+            columns.map(|column| self.scheme.cell(self.colour, self.keyholder, column)),
+        )
     }
-    Ok(text)
 }
 
 // Each keyholder's film: the cells for white and for black.
-fn films<S: Scheme>(heap: Global, scheme: &S) -> Result<String, AllocError> {
-    let mut text = String::new(heap);
+fn write_films<W: fmt::Write>(f: &mut fmt::Formatter<W>, scheme: &CardScheme) -> fmt::Result {
     for keyholder in 1..=scheme.keyholders() {
-        let white = cells(heap, scheme, Colour::White, keyholder)?;
-        let black = cells(heap, scheme, Colour::Black, keyholder)?;
-        let line = format!(in heap; "film {keyholder}: white {white} black {black}\n")?;
-        text.push_str(line.as_str())?;
+        let cells = |colour| Cells {
+            scheme,
+            colour,
+            keyholder,
+        };
+        let white = cells(Colour::White);
+        let black = cells(Colour::Black);
+        writeln!(f, "film {keyholder}: white {white} black {black}")?;
     }
-    Ok(text)
+    Ok(())
 }
 
-// The levels of a set.
-pub fn levels<S: Scheme>(
-    heap: Global,
-    scheme: &S,
-    set: KeyholderSet,
-) -> Result<String, AllocError> {
-    let levels = levels_of(scheme, set);
-    let light = levels.light;
-    let dark = levels.dark;
-    format!(in heap; "set {set}: light {light} dark {dark}\n")
+// The maximal forbidden sets with their numbers, and each keyholder's record: the numbers of those that he is not in.
+fn write_records<W: fmt::Write>(f: &mut fmt::Formatter<W>, scheme: &Cumulative) -> fmt::Result {
+    for (q, set) in scheme.forbidden_sets().iter().enumerate() {
+        writeln!(f, "forbidden {q}: {set}")?;
+    }
+    for keyholder in 1..=scheme.keyholders() {
+        let record = scheme.record(keyholder);
+        write!(f, "record {keyholder}:")?;
+        write_words(f, (0..MOST_KEYHOLDERS).filter(|q| record.has(*q)))?;
+        writeln!(f)?;
+    }
+    Ok(())
 }
 
 // The levels of every qualified set.
-fn all_levels<S: Scheme>(heap: Global, scheme: &S) -> Result<String, AllocError> {
-    let mut text = String::new(heap);
-    for bits in 0..=u8::MAX {
-        let set = KeyholderSet::from_bits(bits);
+fn write_levels<W: fmt::Write>(f: &mut fmt::Formatter<W>, scheme: &CardScheme) -> fmt::Result {
+    for set in (0..=u8::MAX).map(KeyholderSet::from_bits) {
         if scheme.qualified(set) {
-            let line = levels(heap, scheme, set)?;
-            text.push_str(line.as_str())?;
+            let Levels { light, dark } = levels_of(scheme, set);
+            writeln!(f, "set {set}: light {light} dark {dark}")?;
         }
     }
-    Ok(text)
-}
-
-// The numbers of the forbidden sets that a keyholder is not in.
-fn record(heap: Global, scheme: &Cumulative, keyholder: u8) -> Result<String, AllocError> {
-    let record = scheme.record(keyholder);
-    let mut text = format!(in heap; "record {keyholder}:")?;
-    for q in 0..MOST_KEYHOLDERS {
-        if record.has(q) {
-            let word = format!(in heap; " {q}")?;
-            text.push_str(word.as_str())?;
-        }
-    }
-    text.push('\n')?;
-    Ok(text)
-}
-
-// The maximal forbidden sets with their numbers, and each keyholder's record.
-fn records(heap: Global, scheme: &Cumulative) -> Result<String, AllocError> {
-    let mut text = String::new(heap);
-    for (q, set) in scheme.forbidden_sets().iter().enumerate() {
-        let line = format!(in heap; "forbidden {q}: {set}\n")?;
-        text.push_str(line.as_str())?;
-    }
-    for keyholder in 1..=scheme.keyholders() {
-        let line = record(heap, scheme, keyholder)?;
-        text.push_str(line.as_str())?;
-    }
-    Ok(text)
+    Ok(())
 }
 
 // A scheme: its sizes, its films, for sets the forbidden sets and the records, and the levels of every qualified set.
-pub fn card_scheme(heap: Global, scheme: &CardScheme) -> Result<String, AllocError> {
-    let name = name(scheme);
-    let n = scheme.keyholders();
-    let m = scheme.columns();
-    let mut text = format!(in heap; "{name} {n}\nkeyholders {n}\ncolumns {m}\n")?;
-    let films = films(heap, scheme)?;
-    text.push_str(films.as_str())?;
-    if let CardScheme::Sets(sets) = scheme {
-        let records = records(heap, sets)?;
-        text.push_str(records.as_str())?;
+#[derive(Clone, Copy)]
+pub struct Report<'a>(pub &'a CardScheme);
+
+impl fmt::Display for Report<'_> {
+    fn fmt<W: fmt::Write>(&self, f: &mut fmt::Formatter<W>) -> fmt::Result {
+        let name = name(self.0);
+        let n = self.0.keyholders();
+        let m = self.0.columns();
+        write!(f, "{name} {n}\nkeyholders {n}\ncolumns {m}\n")?;
+        write_films(f, self.0)?;
+        if let CardScheme::Sets(sets) = self.0 {
+            write_records(f, sets)?;
+        }
+        write_levels(f, self.0)
     }
-    let levels = all_levels(heap, scheme)?;
-    text.push_str(levels.as_str())?;
-    Ok(text)
 }

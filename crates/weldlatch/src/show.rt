@@ -3,91 +3,92 @@ ghost use Rattle.std.specs.Prelude.{◌≤◌};
 
 use crate::failure::Failure;
 use crate::files;
+use crate::text::write_digits;
 use pictures::{Picture, PictureFault};
-use schemes::bit_at;
-use std::alloc::{AllocError, Global};
+use schemes::{bit_at, bytes_for};
+use std::alloc::Global;
+use std::fmt;
 
 // A line has at most so many characters; a wider picture is scaled down.
 const LINE: u32 = 160;
 
 // Whether at least half of the pixels are black in the square of `scale` by `scale` pixels at (x, y).
 fn is_dark(picture: &Picture<'_>, scale: u32, x: u32, y: u32) -> Result<bool, PictureFault> {
-    let mut black: u32 = 0;
-    let mut all: u32 = 0;
-    for row in y..y.saturating_add(scale).min(picture.height()) {
+    let right = x.saturating_add(scale).min(picture.width());
+    let below = y.saturating_add(scale).min(picture.height());
+    let all = (x..right).len().saturating_mul((y..below).len());
+    let black = (y..below).try_fold(0usize, |black, row| -> Result<usize, PictureFault> {
         let bits = picture.row(row)?;
-        for column in x..x.saturating_add(scale).min(picture.width()) {
-            all = all.saturating_add(1);
-            if bit_at(bits, column as usize) {
-                black = black.saturating_add(1);
-            }
-        }
-    }
-    Ok(black > 0 && black >= all - black.min(all))
+        let more = (x..right).filter(|c| bit_at(bits, *c as usize)).count();
+        Ok(black.saturating_add(more))
+    })?;
+    Ok(black > 0 && black.saturating_mul(2) >= all)
 }
 
 // One line of the drawing: two rows of squares.
 fn line(heap: Global, picture: &Picture<'_>, scale: u32, y: u32) -> Result<String, Failure>
     requires { 1 ≤ scale }
 {
-    let mut text = String::new(heap);
     let below = y.saturating_add(scale);
-    for x in (0..picture.width()).step_by(scale as usize) {
-        let upper = is_dark(picture, scale, x, y)?;
-        let lower = is_dark(picture, scale, x, below)?;
-        text.push(match (upper, lower) {
-            (true, true) => '█',
-            (true, false) => '▀',
-            (false, true) => '▄',
-            (false, false) => ' ',
-        })?;
-    }
-    Ok(text)
+    (0..picture.width())
+        .step_by(scale as usize)
+        .map(|x| -> Result<char, Failure> {
+            let upper = is_dark(picture, scale, x, y)?;
+            let lower = is_dark(picture, scale, x, below)?;
+            Ok(match (upper, lower) {
+                (true, true) => '█',
+                (true, false) => '▀',
+                (false, true) => '▄',
+                (false, false) => ' ',
+            })
+        })
+        .try_collect(heap)
 }
 
-fn draw(rt: &HostRuntime, picture: &Picture<'_>) -> Result<(), Failure> {
+fn draw(rt: &HostRuntime, file: &[u8]) -> Result<(), Failure> {
+    let picture = pictures::open(file)?;
     let scale = picture.width().div_ceil(LINE).max(1);
+    // By number: a line is two rows of squares, and begins at the number of its first row.
     for y in (0..picture.height()).step_by(scale.saturating_mul(2) as usize) {
-        println!(rt; "{}", line(rt.alloc(), picture, scale, y)?)?;
+        println!(rt; "{}", line(rt.alloc(), &picture, scale, y)?)?;
     }
     Ok(())
 }
 
 // A row as zeros and ones, 1 for black.
-fn zeros_and_ones(heap: Global, bits: &[u8], width: u32) -> Result<String, AllocError> {
-    let mut text = String::new(heap);
-    for column in 0..width {
-        text.push(if bit_at(bits, column as usize) {
-            '1'
-        } else {
-            '0'
-        })?;
-    }
-    Ok(text)
+#[derive(Clone, Copy)]
+struct PlainRow<'a> {
+    bits: &'a [u8],
+    width: u32,
 }
 
-fn print_plain(rt: &HostRuntime, picture: &Picture<'_>) -> Result<(), Failure> {
+impl fmt::Display for PlainRow<'_> {
+    fn fmt<W: fmt::Write>(&self, f: &mut fmt::Formatter<W>) -> fmt::Result {
+        write_digits(
+            f,
+            (0..self.width).map(|column| bit_at(self.bits, column as usize)),
+        )
+    }
+}
+
+fn print_plain(rt: &HostRuntime, file: &[u8]) -> Result<(), Failure> {
+    let picture = pictures::open(file)?;
     let width = picture.width();
     let height = picture.height();
     println!(rt; "{width} {height}")?;
-    for y in 0..height {
-        println!(rt; "{}", zeros_and_ones(rt.alloc(), picture.row(y)?, width)?)?;
+    for bits in picture.rows().chunks_exact(bytes_for(width as usize)) {
+        println!(rt; "{}", PlainRow { bits, width })?;
     }
     Ok(())
 }
 
 // `show PICTURE`, `show --plain PICTURE`
 pub fn run(rt: &HostRuntime, words: &[String]) -> Result<(), Failure> {
-    let (plain, name) = match words {
-        [name] => (false, name),
-        [option, name] if option.as_str() == "--plain" => (true, name),
-        _ => return Err(Failure::Usage),
-    };
-    let file = files::read(rt, name.as_str())?;
-    let picture = pictures::open(&file)?;
-    if plain {
-        print_plain(rt, &picture)
-    } else {
-        draw(rt, &picture)
+    match words {
+        [name] => draw(rt, &files::read(rt, name.as_str())?),
+        [option, name] if option.as_str() == "--plain" => {
+            print_plain(rt, &files::read(rt, name.as_str())?)
+        }
+        _ => Err(Failure::Usage),
     }
 }
