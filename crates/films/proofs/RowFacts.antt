@@ -1,17 +1,7 @@
 -- The rows of one film: where each strip lies, and what a row more adds.
-use Rattle.std.proofs.Common.{◌≡◌, ℕ, zero, suc, ◌+◌, ◌-◌, ◌*◌, ◌^◌, ◌<◌, ◌≤◌, List, ◌++◌, take, drop, sym, ap, ◌∙◌, mul-le-mul_right, suc-mul, mul-le-mul, add-one, arith}
+use Rattle.std.proofs.Common.{◌≡◌, ℕ, zero, suc, ◌+◌, ◌-◌, ◌*◌, ◌<◌, ◌≤◌, List, ◌++◌, take, drop, sym, ap, ◌∙◌, mul-le-mul_right, suc-mul, add-one, arith}
 use Rattle.std.proofs.lemmas.List.{drop-drop}
 use Rattle.films.specs.FilmRows.{film_of}
-
--- the strips of all rows are counted in 64 bits
-pub all_fit : (h n size : ℕ) → h < 2 ^ 16 → n < 2 ^ 8 → size < 2 ^ 32 → h * (n * size) < 2 ^ 64
-all_fit h n size a b c =
-    let few : n ≤ 2 ^ 8 = omega arith in
-    let short : size ≤ 2 ^ 32 = omega arith in
-    let low : h ≤ 65535 = omega arith in
-    let row : n * size ≤ 2 ^ 8 * 2 ^ 32 = mul-le-mul few short in
-    let all : h * (n * size) ≤ 65535 * (2 ^ 8 * 2 ^ 32) = mul-le-mul low row in
-    omega arith
 
 -- the strip of keyholder i in row y ends within the strips
 pub strip_within : (n size h y i all : ℕ) → y < h → 1 ≤ i → i ≤ n → h * (n * size) ≤ all → y * (n * size) + (i - 1) * size + size ≤ all

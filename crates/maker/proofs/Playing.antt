@@ -1,13 +1,12 @@
 -- A run is played call by call. For `play`.
-use Rattle.std.proofs.Common.{◌≡◌, ℕ, Bool, true, false, List, [], ◌∷◌, ◌++◌, Some, None, Option, sym, refl, ap, ◌∙◌, subst, ap₂, MatchOption}
-use Rattle.std.proofs.lemmas.List.{append_assoc, append-nil}
+use Rattle.std.proofs.Common.{◌≡◌, ℕ, List, [], ◌∷◌, ◌++◌, sym, refl, ap, ◌∙◌, subst}
+use Rattle.std.proofs.lemmas.List.{append_assoc}
 use Rattle.schemes.specs.Meaning.{Meaning}
 use Rattle.maker.specs.declared.maker.Maker.{Maker}
 use Rattle.maker.specs.declared.plays.Reply.{Reply}
-use Rattle.maker.specs.declared.runs.Closed.{Closed}
-use Rattle.maker.specs.Runs.{fresh, Call, Outcome, Event, outcome, transcript, state_after, close_answer}
-use Rattle.maker.specs.Makers.{state_of, outcome_of, Leaves, answer_of}
-use Rattle.maker.specs.Plays.{ReplyTo, Replies, ClosedBy, Played}
+use Rattle.maker.specs.Runs.{Call, Outcome, Event, outcome, transcript, state_after}
+use Rattle.maker.specs.Makers.{state_of, outcome_of, Leaves}
+use Rattle.maker.specs.Plays.{ReplyTo, Replies}
 
 replies_more : (es : List Event) (rs : List Reply) (e : Event) (r : Reply) → Replies es rs → ReplyTo e.call e.outcome r → Replies (es ++ e ∷ []) (rs ++ r ∷ [])
 replies_more [] [] e r h t = (t, tt)
@@ -68,34 +67,3 @@ module _ {S T : Type 0} (means : S → Meaning) (bytes : T → List ℕ) (start 
       same_width = leaves.width ∙ p.same_width;
       same_height = leaves.height ∙ p.same_height;
     }
-
-  -- none is left, of a fresh maker
-  pub played : (k : Maker S T) (calls : List Call) (replies : List Reply) (closes : Bool) (close : Option Closed) → Playing k [] replies → all ≡ calls →
-      (scheme : S) (tape : T) (w' h' : ℕ) → start.scheme ≡ scheme → start.width ≡ w' → start.height ≡ h' → state_of means bytes start ≡ fresh (bytes tape) →
-      MatchOption close (closes ≡ false) (λ c. (closes ≡ true) × (answer_of c ≡ close_answer (means k.scheme) k.width k.height (state_of means bytes k))) →
-      Played (means scheme) w' h' (bytes tape) calls closes replies close
-  played k calls replies closes close p e scheme tape w' h' es ew eh ef shut = record {
-    throughout = subst (λ es. Replies es replies) (sym (append-nil p.done) ∙ sym p.whole ∙ same_run) p.replied;
-    at_close = go close shut;
-  }
-    where
-      same_run : transcript s w h (state_of means bytes start) all ≡ transcript (means scheme) w' h' (fresh (bytes tape)) calls
-      same_run =
-          ap₂ (λ st l. transcript s w h st l) ef e ∙ ap (λ x. transcript (means x) w h (fresh (bytes tape)) calls) es
-          ∙ ap₂ (λ x y. transcript (means scheme) x y (fresh (bytes tape)) calls) ew eh
-
-      same_final : state_of means bytes k ≡ state_after (means scheme) w' h' (fresh (bytes tape)) calls
-      same_final =
-          sym p.final ∙ ap₂ (λ st l. state_after s w h st l) ef e ∙ ap (λ x. state_after (means x) w h (fresh (bytes tape)) calls) es
-          ∙ ap₂ (λ x y. state_after (means scheme) x y (fresh (bytes tape)) calls) ew eh
-
-      same_close : close_answer (means k.scheme) k.width k.height (state_of means bytes k) ≡ close_answer (means scheme) w' h' (state_after (means scheme) w' h' (fresh (bytes tape)) calls)
-      same_close =
-          ap (λ x. close_answer (means x) k.width k.height (state_of means bytes k)) (p.same_scheme ∙ es)
-          ∙ ap₂ (λ x y. close_answer (means scheme) x y (state_of means bytes k)) (p.same_width ∙ ew) (p.same_height ∙ eh)
-          ∙ ap (λ st. close_answer (means scheme) w' h' st) same_final
-
-      go : (o : Option Closed) → MatchOption o (closes ≡ false) (λ c. (closes ≡ true) × (answer_of c ≡ close_answer (means k.scheme) k.width k.height (state_of means bytes k))) →
-          MatchOption o (closes ≡ false) (λ c. (closes ≡ true) × ClosedBy (means scheme) w' h' (bytes tape) calls c)
-      go None never = never
-      go (Some c) now = (now.0, now.1 ∙ same_close)

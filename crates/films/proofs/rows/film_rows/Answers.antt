@@ -1,33 +1,6 @@
 use Rattle.std.proofs.Common.{◌*◌, ◌≤◌, refl, arith}
-use Rattle.films.proofs.RowFacts.{all_fit, strip_within, row_more}
+use Rattle.films.proofs.RowFacts.{strip_within, row_more}
 use Rattle.films.proofs.rows.film_rows.Goals as goal
-
-pub overflow_mul-all : goal.overflow_mul-all
-overflow_mul-all c = omega (arith, all_fit c.args.height c.args.n c.args.size (omega arith) (omega arith) (omega arith))
-
-pub overflow_mul-start : goal.overflow_mul-start
-overflow_mul-start c =
-    let all = all_fit c.args.height c.args.n c.args.size (omega arith) (omega arith) (omega arith) in
-    let least : 1 ≤ c.args.keyholder = grind arith in
-    let most : c.args.keyholder ≤ c.args.n = grind arith in
-    let end = strip_within c.args.n c.args.size c.args.height c.loop-y.y c.args.keyholder (c.args.height * (c.args.n * c.args.size)) c.loop-y-test.true least most (omega arith) in
-    omega arith
-
-pub overflow_add-start : goal.overflow_add-start
-overflow_add-start c =
-    let all = all_fit c.args.height c.args.n c.args.size (omega arith) (omega arith) (omega arith) in
-    let least : 1 ≤ c.args.keyholder = grind arith in
-    let most : c.args.keyholder ≤ c.args.n = grind arith in
-    let end = strip_within c.args.n c.args.size c.args.height c.loop-y.y c.args.keyholder (c.args.height * (c.args.n * c.args.size)) c.loop-y-test.true least most (omega arith) in
-    omega arith
-
-pub overflow_add-start-in-loop-y : goal.overflow_add-start-in-loop-y
-overflow_add-start-in-loop-y c =
-    let all = all_fit c.args.height c.args.n c.args.size (omega arith) (omega arith) (omega arith) in
-    let least : 1 ≤ c.args.keyholder = grind arith in
-    let most : c.args.keyholder ≤ c.args.n = grind arith in
-    let end = strip_within c.args.n c.args.size c.args.height c.loop-y.y c.args.keyholder (c.args.height * (c.args.n * c.args.size)) c.loop-y-test.true least most (omega arith) in
-    omega arith
 
 pub slice_bounds-extend_from_slice-end : goal.slice_bounds-extend_from_slice-end
 slice_bounds-extend_from_slice-end c =

@@ -1,11 +1,8 @@
-use Rattle.std.proofs.Common.{rules, ◌≡◌, true, false, [], ◌∷◌, map, length, vec_items, MatchOption, sym, ap, ◌∙◌, subst, arith}
+use Rattle.std.proofs.Common.{◌≡◌, ◌∷◌, map, length, vec_items, sym, ap, subst, arith}
 use Rattle.std.specs.Vec.Iter.{into_iter_items}
-use Rattle.std.proofs.lemmas.List.{nil_from_length}
-use Rattle.maker.specs.Makers.{state_of, answer_of}
 use Rattle.maker.specs.Plays.{call_of}
-use Rattle.maker.specs.Runs.{close_answer}
 use Rattle.maker.proofs.Laws.{conceals, shows}
-use Rattle.maker.proofs.Playing.{Playing, playing_none, playing_more, played}
+use Rattle.maker.proofs.Playing.{Playing, playing_none, playing_more}
 use Rattle.maker.proofs.plays.play.Goals as goal
 
 pub returns-in_default-clause-conceals : goal.returns-in_default-clause-conceals
@@ -24,10 +21,6 @@ loop-call-init g c =
       omega (arith, empty.len, empty.capacity, c.len.ensures, ap length c.into_iter-call-iterator.ensures.into_iter_gives.0, c.args.calls.ok.0),
     )
 
-pub push_reserved-requires : goal.push_reserved-requires
-push_reserved-requires g c =
-    omega (arith, c.loop-call.invariant.1, ap length c.in-Some.ensures.steps.0)
-
 pub loop-call-preserved : goal.loop-call-preserved
 loop-call-preserved g c =
     let means = g.S.Scheme.means in
@@ -42,24 +35,3 @@ loop-call-preserved g c =
       subst (λ l. Playing means bytes start all c.perform.new.maker (map call_of rest) l) (sym c.push_reserved.ensures.items) more,
       omega (arith, c.loop-call.invariant.1, ap length e, c.push_reserved.ensures.len, c.push_reserved.ensures.capacity),
     )
-
-pub returns-clause-plays : goal.returns-clause-plays
-returns-clause-plays g c =
-    let means = g.S.Scheme.means in
-    let bytes = g.T.Tape.bytes in
-    let all = map call_of (into_iter_items c.into_iter-call-iterator.result) in
-    let start = c.new-maker.result in
-    let last = c.loop-call.maker in
-    let e : into_iter_items c.loop-call.call-iterator ≡ [] = nil_from_length _ (sym c.loop-call.call-iterator.rest.ok.0 ∙ c.in-None.ensures.steps.0) in
-    let h = subst (λ l. Playing means bytes start all last (map call_of l) (vec_items c.loop-call.replies)) e c.loop-call.invariant.0 in
-    let parts = c.new-maker.ensures.parts in
-    let shut : MatchOption c.then.result (c.args.closes ≡ false) (λ closed. (c.args.closes ≡ true) × (answer_of closed ≡ close_answer (means last.scheme) last.width last.height (state_of means bytes last))) = search rules in
-    played means bytes start all last (map call_of (vec_items c.args.calls)) (vec_items c.loop-call.replies) c.args.closes c.then.result h
-    (ap (map call_of) c.into_iter-call-iterator.ensures.into_iter_gives.0) c.args.scheme c.args.tape c.args.width c.args.height
-    parts.0 parts.2 parts.3 c.new-maker.ensures.fresh shut
-
-pub returns-clause-conceals : goal.returns-clause-conceals
-returns-clause-conceals g c = c.new-maker.ensures.conceals
-
-pub returns-clause-shows : goal.returns-clause-shows
-returns-clause-shows g c = c.new-maker.ensures.shows
