@@ -55,6 +55,18 @@ module _ {F : Type 0} (g : Mut F (ℕ × Unit {0}) Bool) (f : F) (test : ℕ →
       ∙ ap (λ (m : ℕ). any_below m (λ k. test (t.0 + k))) b
       ∙ any_same n (λ k. test (t.0 + k)) (λ k. test (suc k)) (λ k l. ap test (omega (arith, a)))
 
+  -- over 0..n
+  pub any_from_zero : (s : Range ℕ) (n : ℕ) (r : Bool) → s.start ≡ 0 → s.end ≡ n
+      → SomeRun nat_range_steps s (λ p. MatchBool r (AnyItemGives p g f true) (IsTrue p.whole × AllItemsGive p g f false))
+      → r ≡ any_below n test
+  any_from_zero s n r first last (p, from, m) =
+      let t = range_listed p p.seen in
+      let a : t.0 ≡ 0 = t.2 ∙ ap (λ (s : Range ℕ). s.start) from ∙ first in
+      let b : t.1 - t.0 ≡ n = omega (arith, a, t.3, ap (λ (s : Range ℕ). s.end) from, last) in
+      any_counted p t.0 t.1 r t.4 m
+      ∙ ap (λ (m : ℕ). any_below m (λ k. test (t.0 + k))) b
+      ∙ any_same n (λ k. test (t.0 + k)) test (λ k l. ap test (omega (arith, a)))
+
 -- ---- filter and count
 
 fold_counted : (test : ℕ → Bool) (xs : List ℕ) (a t : ℕ) → ((k : ℕ) → k < length xs → get_or xs k 0 ≡ a + k)

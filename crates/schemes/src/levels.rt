@@ -15,7 +15,7 @@ pub struct Levels {
 fn is_stack_black<S: Scheme>(scheme: &S, colour: Colour, set: KeyholderSet, column: u8) -> bool
     ensures { result ≡ stack (S.means scheme.now) colour set.bits column }
 {
-    (1..=scheme.keyholders()).any(|i| set.has(i) && scheme.cell(colour, i, column))
+    (0..scheme.keyholders()).any(|k| set.has(k + 1) && scheme.cell(colour, k + 1, column))
 }
 
 // At how many columns the stack is black.
