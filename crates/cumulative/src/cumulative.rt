@@ -97,12 +97,22 @@ impl Cumulative {
         KeyholderRecord::of(keyholder, &self.forbidden)
     }
 
+    // Whether the record of a keyholder has the number q, by the forbidden set of that number alone.
+    fn in_record(&self, keyholder: u8, q: u8) -> bool
+        ensures { result ≡ in_record self.now.n (forbidden_sets self.now.n (numbers self.now.minimal.items)) keyholder q }
+    {
+        (1..=self.n).contains(&keyholder)
+            && self
+                .forbidden
+                .get(usize::from(q))
+                .is_some_and(|set| !set.has(keyholder))
+    }
+
     // Whether one of the keyholder's rows of the table is black at the column. A chain asks for a clause that mirrors it.
     fn has_black_row(&self, colour: Colour, keyholder: u8, column: u8) -> bool
         ensures { result ≡ list_any (λ q. in_record self.now.n (forbidden_sets self.now.n (numbers self.now.minimal.items)) keyholder q && (all_of self.now.table.n).cell colour (q + 1) column) (range_with_len 0 self.now.table.n) }
     {
-        let record = self.record(keyholder);
-        (0..self.table.keyholders()).any(|q| record.has(q)
+        (0..self.table.keyholders()).any(|q| self.in_record(keyholder, q)
             && self.table.cell(colour, q + 1, column))
     }
 }
