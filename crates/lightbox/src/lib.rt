@@ -10,7 +10,7 @@ mod seen;
 
 pub use contrasts::contrast;
 pub use laying::lay;
-pub use reading::{check_reading, read};
+pub use reading::{admit, check_reading, read};
 pub use refusals::{ContrastRefusal, LayRefusal, ReadRefusal};
 pub use seen::Contrast;
 

@@ -7,14 +7,45 @@ ghost use Rattle.lightbox.specs.Contrasts.{contrast_of};
 ghost use Rattle.lightbox.specs.Reading.{early_refusal, Counted, Reading, OneReading, ReadsWhatShows};
 
 use crate::counting::count_block;
-use crate::{Contrast, ReadRefusal, contrast};
+use crate::{Contrast, ContrastRefusal, ReadRefusal, contrast};
 use schemes::{
     Colour, KeyholderSet, MOST_PIXELS, MOST_SQUARES, Scheme, bytes_for, set_bit, strip_size,
     strip_squares,
 };
 
-// What the set sees. Refused as `read` refuses before it counts a square, by the lengths of the glass and the output.
+// Refuses what `read` refuses before it counts a square, by the lengths of the glass and the output. Its levels are not asked.
 // Its arguments are those of `read`: a caller has each of them apart.
+pub fn admit<S: Scheme>(
+    scheme: &S,
+    set: KeyholderSet,
+    w: u32,
+    glass_bytes: usize,
+    out_bytes: usize,
+) -> Result<(), ReadRefusal>
+    ensures refusal { refusal_in result ≡ early_refusal (S.means scheme.now) set.bits w glass_bytes out_bytes }
+    ensures short { OnOk result (glass_bytes ≤ bytes_for most_squares) }
+    ensures long { OnOk result (out_bytes ≡ bytes_for w) }
+{
+    if !(1..=MOST_PIXELS).contains(&w) {
+        return Err(ReadRefusal::Width);
+    }
+    let m = scheme.columns();
+    if strip_squares(m, w) > MOST_SQUARES {
+        return Err(ReadRefusal::Squares);
+    }
+    if !scheme.qualified(set) {
+        return Err(ReadRefusal::Contrast(ContrastRefusal::NotQualified));
+    }
+    if glass_bytes != strip_size(m, w) {
+        return Err(ReadRefusal::GlassLength);
+    }
+    if out_bytes != bytes_for(w as usize) {
+        return Err(ReadRefusal::OutputLength);
+    }
+    Ok(())
+}
+
+// What the set sees. Refused as `read` refuses before it counts a square, by the lengths of the glass and the output.
 pub fn check_reading<S: Scheme>(
     scheme: &S,
     set: KeyholderSet,
@@ -28,21 +59,8 @@ pub fn check_reading<S: Scheme>(
     ensures short { OnOk result (glass_bytes ≤ bytes_for most_squares) }
     ensures long { OnOk result (out_bytes ≡ bytes_for w) }
 {
-    if !(1..=MOST_PIXELS).contains(&w) {
-        return Err(ReadRefusal::Width);
-    }
-    let m = scheme.columns();
-    if strip_squares(m, w) > MOST_SQUARES {
-        return Err(ReadRefusal::Squares);
-    }
-    let seen = contrast(scheme, set)?;
-    if glass_bytes != strip_size(m, w) {
-        return Err(ReadRefusal::GlassLength);
-    }
-    if out_bytes != bytes_for(w as usize) {
-        return Err(ReadRefusal::OutputLength);
-    }
-    Ok(seen)
+    admit(scheme, set, w, glass_bytes, out_bytes)?;
+    Ok(contrast(scheme, set)?)
 }
 
 // Counts the black squares of each pixel, and makes a row of them.

@@ -7,7 +7,7 @@ ghost use Rattle.readback.specs.ReadingBack.{LaidAndRead, Restores, MembersLaid,
 ghost use Rattle.readback.specs.Law.{ReadsBack};
 
 use crate::ReadBackRefusal;
-use lightbox::{LayRefusal, check_reading, lay, read};
+use lightbox::{LayRefusal, admit, lay, read};
 use schemes::{KeyholderSet, Scheme};
 
 // Clears the glass, and lays on it the strips of the members of a set of keyholders 1 to n. Refused where the films have not
@@ -51,7 +51,7 @@ pub fn read_back<S: Scheme>(
     ensures restores { Restores (S.means scheme.now) set.bits w films.now glass.old out.old result out.new }
     ensures whole_runs { ReadsBack (S.means scheme.now) w }
 {
-    check_reading(scheme, set, w, glass.len(), out.len())?;
+    admit(scheme, set, w, glass.len(), out.len())?;
     lay_members(scheme.keyholders(), set, films, glass)?;
     Ok(read(scheme, set, w, glass, out)?)
 }

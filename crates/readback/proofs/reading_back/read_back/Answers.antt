@@ -6,15 +6,15 @@ use Rattle.readback.proofs.reading_back.read_back.Goals as goal
 pub lay_members-requires-clause-some : goal.lay_members-requires-clause-some
 lay_members-requires-clause-some g c =
     let scheme = c.args.scheme.now in
-    early_some (g.S.Scheme.means scheme) (g.met.S.Scheme.in_range scheme) c.args.set.bits c.args.w _ _ c.in_ok-check_reading.ensures.refusal
+    early_some (g.S.Scheme.means scheme) (g.met.S.Scheme.in_range scheme) c.args.set.bits c.args.w _ _ c.in_ok-admit.ensures.refusal
 
-pub returns-in_err-check_reading : goal.returns-in_err-check_reading
-returns-in_err-check_reading g c =
+pub returns-in_err-admit : goal.returns-in_err-admit
+returns-in_err-admit g c =
     let scheme = c.args.scheme.now in
     let p = err_from_is_err_and c.from_residual.result c.from_residual.ensures.1 in
     when_early (g.S.Scheme.means scheme) (g.met.S.Scheme.in_range scheme) (g.met.S.Scheme.lawful scheme)
     c.args.set.bits c.args.w c.args.films.now c.args.glass.now c.args.out.now
-    c.in_err-check_reading.field-0.0 c.from_residual.result c.in_err-check_reading.ensures.refusal (p.1 ∙ ap Err p.2)
+    c.in_err-admit.field-0.0 c.from_residual.result c.in_err-admit.ensures.refusal (p.1 ∙ ap Err p.2)
 
 pub returns-in_err-lay_members : goal.returns-in_err-lay_members
 returns-in_err-lay_members g c =
@@ -22,7 +22,7 @@ returns-in_err-lay_members g c =
     let p = err_from_is_err_and c.from_residual-in_err-lay_members.result c.from_residual-in_err-lay_members.ensures.1 in
     when_short (g.S.Scheme.means scheme) (g.met.S.Scheme.in_range scheme) (g.met.S.Scheme.lawful scheme)
     c.args.set.bits c.args.w c.args.films.now c.args.glass.now c.args.out.now
-    c.in_ok-check_reading.ensures.refusal c.keyholders.result c.keyholders.ensures
+    c.in_ok-admit.ensures.refusal c.keyholders.result c.keyholders.ensures
     c.in_err-lay_members.field-0.0 c.from_residual-in_err-lay_members.result c.lay_members.new.glass
     c.in_err-lay_members.ensures (p.1 ∙ ap Err p.2)
 
@@ -32,7 +32,7 @@ returns-in_err-read g c =
     let p = err_from_is_err_and c.from_residual-in_err-read.result c.from_residual-in_err-read.ensures.1 in
     when_read (g.S.Scheme.means scheme) (g.met.S.Scheme.in_range scheme) (g.met.S.Scheme.lawful scheme)
     c.args.set.bits c.args.w c.args.films.now c.args.glass.now c.args.out.now
-    c.in_ok-check_reading.ensures.refusal c.keyholders.result c.keyholders.ensures
+    c.in_ok-admit.ensures.refusal c.keyholders.result c.keyholders.ensures
     c.lay_members.new.glass c.read.new.out (Err c.in_err-read.field-0.0) c.from_residual-in_err-read.result
     c.in_ok-lay_members.ensures (search rules) (p.1 ∙ ap Err p.2)
 
@@ -41,6 +41,6 @@ returns g c =
     let scheme = c.args.scheme.now in
     when_read (g.S.Scheme.means scheme) (g.met.S.Scheme.in_range scheme) (g.met.S.Scheme.lawful scheme)
     c.args.set.bits c.args.w c.args.films.now c.args.glass.now c.args.out.now
-    c.in_ok-check_reading.ensures.refusal c.keyholders.result c.keyholders.ensures
+    c.in_ok-admit.ensures.refusal c.keyholders.result c.keyholders.ensures
     c.lay_members.new.glass c.read.new.out (Ok tt) (Ok tt)
     c.in_ok-lay_members.ensures (search rules) refl
