@@ -3,11 +3,9 @@ ghost use Rattle.std.specs.Prelude.{◌≤◌};
 
 use crate::failure::Failure;
 use crate::files;
-use crate::text::write_digits;
 use pictures::{Picture, PictureFault};
 use schemes::{bit_at, bytes_for};
-use std::alloc::Global;
-use std::fmt;
+use std::alloc::{AllocError, Global};
 
 // A line has at most so many characters; a wider picture is scaled down.
 const LINE: u32 = 160;
@@ -56,19 +54,14 @@ fn draw(rt: &HostRuntime, file: &[u8]) -> Result<(), Failure> {
 }
 
 // A row as zeros and ones, 1 for black.
-#[derive(Clone, Copy)]
-struct PlainRow<'a> {
-    bits: &'a [u8],
-    width: u32,
-}
-
-impl fmt::Display for PlainRow<'_> {
-    fn fmt<W: fmt::Write>(&self, f: &mut fmt::Formatter<W>) -> fmt::Result {
-        write_digits(
-            f,
-            (0..self.width).map(|column| bit_at(self.bits, column as usize)),
-        )
-    }
+fn plain_row(heap: Global, bits: &[u8], width: u32) -> Result<String, AllocError> {
+    (0..width)
+        .map(|column| if bit_at(bits, column as usize) {
+            '1'
+        } else {
+            '0'
+        })
+        .collect(heap)
 }
 
 fn print_plain(rt: &HostRuntime, file: &[u8]) -> Result<(), Failure> {
@@ -77,7 +70,7 @@ fn print_plain(rt: &HostRuntime, file: &[u8]) -> Result<(), Failure> {
     let height = picture.height();
     println!(rt; "{width} {height}")?;
     for bits in picture.rows().chunks_exact(bytes_for(width as usize)) {
-        println!(rt; "{}", PlainRow { bits, width })?;
+        println!(rt; "{}", plain_row(rt.alloc(), bits, width)?)?;
     }
     Ok(())
 }
