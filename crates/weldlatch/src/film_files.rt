@@ -51,7 +51,7 @@ impl Films {
 
     // A keyholder's film as a PBM file: its head and its rows. There is none before every row is made.
     fn file(&self, heap: Global, keyholder: u8) -> Result<Vec<u8>, Failure> {
-        let rows = film_rows(
+        let mut file = film_rows(
             heap,
             &self.strips,
             self.keyholders,
@@ -63,9 +63,9 @@ impl Films {
         // An array with its length beside: a head is written into a buffer of the caller's.
         let mut head = [0; LONGEST_HEAD];
         let long = pictures::head(&mut head, self.width, u32::from(self.height))?;
-        let mut file = Vec::with_capacity(heap, rows.len().saturating_add(LONGEST_HEAD))?;
+        // The head is turned from behind the rows to their front: before a copy of them, a film would be held twice.
         file.extend_from_slice(&head[..long])?;
-        file.extend_from_slice(&rows)?;
+        file.rotate_right(long);
         Ok(file)
     }
 }
