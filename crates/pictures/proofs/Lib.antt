@@ -1,4 +1,5 @@
 pub mod Steps
 pub mod Grammar
 pub mod FirstFault
+pub mod Rows
 pub mod Written
