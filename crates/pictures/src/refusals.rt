@@ -26,7 +26,7 @@ impl PictureRefusal {
     pub fn number(self) -> u8
         ensures number { result ≡ number_of self }
     {
-        self as u8
+        self as u8 // 1 to 6
     }
 
     fn words(self) -> &'static str
@@ -76,7 +76,7 @@ impl HeadRefusal {
     pub fn number(self) -> u8
         ensures number { result ≡ head_number_of self }
     {
-        self as u8
+        self as u8 // 33 and 34
     }
 
     fn words(self) -> &'static str
