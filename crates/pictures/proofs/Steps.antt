@@ -1,11 +1,11 @@
 -- What each part of a file reads as: a comment up to its end, and a number by its digits. Serves the contracts of src/parts.rt, and by
 -- them that of `open`. Assumes nothing.
-use Rattle.std.proofs.Common.{◌≡◌, ℕ, ◌+◌, ◌-◌, ◌*◌, ◌<◌, Bool, true, false, cond, not, ◌&&◌, eqb, leb, List, [], ◌∷◌, length, get_or, take, drop, fold, Some, None, sym, refl, ap, ◌∙◌, subst, ⊎_elim, arith, zero, suc, add-one}
+use Rattle.std.proofs.Common.{◌≡◌, ℕ, ◌+◌, ◌-◌, ◌*◌, ◌<◌, ◌≤◌, min, Bool, true, false, cond, ◌&&◌, eqb, leb, List, [], ◌∷◌, length, get_or, drop, Some, None, sym, refl, ap, ◌∙◌, ⊎_elim, arith, zero, suc, add-one}
 use Rattle.std.specs.List.{position, position_from}
-use Rattle.std.proofs.lemmas.Bool.{cond-true, cond-false, cases_Bool, and_right, lt-leb, cases_lt, not-true, not-false}
+use Rattle.std.proofs.lemmas.Bool.{cond-true, cond-false, cases_Bool, and_from, and_right, lt-leb, le-leb, cases_lt}
 use Rattle.std.proofs.lemmas.List.Quantifiers.{position-Some}
 use Rattle.std.proofs.lemmas.Iterator.Adapters.{position_from-zero}
-use Rattle.pictures.specs.Reading.{Read, got, fault, ◌⟫◌, is_digit_byte, blank, digits, more_digit, number}
+use Rattle.pictures.specs.Reading.{Read, got, fault, ◌⟫◌, is_digit_byte, blank, digits}
 use Rattle.pictures.specs.declared.refusals.PictureRefusal.TheVariants.{NumberOutside, EndsEarly}
 
 -- from one part to the next
@@ -45,41 +45,9 @@ over whole m n (b ∷ s) g h =
     (λ i. cond (is_digit_byte b) (both i) (cond (outside m g i) (got m (b ∷ s)) (fault NumberOutside whole)))
     ∙ sym (λ i. cond (is_digit_byte b) (digits whole (n * 10 + (b - 48)) s) (cond (outside n h i) (got n (b ∷ s)) (fault NumberOutside whole)))
 
-step : (whole s : List ℕ) (n b : ℕ) → digits whole (n * 10 + (b - 48)) s ≡ digits whole (more_digit n b) s
-step whole s n b =
-    ⊎_elim
-    (λ h. over whole (n * 10 + (b - 48)) (more_digit n b) s h (omega arith))
-    (λ h. let e : n * 10 + (b - 48) ≡ more_digit n b = omega arith in ap (λ k. digits whole k s) e)
-    (cases_lt 4096 (n * 10 + (b - 48)))
+saturates : (whole : List ℕ) (n : ℕ) (s : List ℕ) → digits whole (min n 4097) s ≡ digits whole n s
+saturates whole n s = ⊎_elim (λ h. over whole (min n 4097) n s (omega arith) h) (λ h. let e : min n 4097 ≡ n = omega arith in ap (λ k. digits whole k s) e) (cases_lt 4096 n)
 
-abbrev no_digit : ℕ → Bool
-no_digit b = not (is_digit_byte b)
-
-unended : (whole s : List ℕ) (n i : ℕ) → position_from no_digit i s ≡ None → digits whole n s ≡ fault EndsEarly []
-unended whole [] n i e = refl
-unended whole (b ∷ s) n i e =
-    ⊎_elim
-    (λ p. cond-true _ _ _ p ∙ unended whole s (n * 10 + (b - 48)) (i + 1) (sym (cond-false _ _ _ (ap not p)) ∙ e))
-    (λ p. absurd (let f : ◌≡◌ (Some i) None = sym (cond-true _ _ _ (ap not p)) ∙ e in cc))
-    (cases_Bool (is_digit_byte b))
-
--- the number that the digits before the place k write, and the bytes from there on
-abbrev pub ended : List ℕ → ℕ → List ℕ → Read ℕ
-ended whole n t = cond (leb 1 n && leb n 4096) (got n t) (fault NumberOutside whole)
-
-ended_at : (whole : List ℕ) (k n : ℕ) (s : List ℕ) → k < length s → no_digit (get_or s k 0) ≡ true → ((j : ℕ) → j < k → no_digit (get_or s j 0) ≡ false) → digits whole n s ≡ ended whole (fold more_digit n (take k s)) (drop k s)
-ended_at whole k n [] lt at before = absurd (omega arith)
-ended_at whole zero n (b ∷ s) lt at before = cond-false _ _ _ (not-true _ at)
-ended_at whole (suc k) n (b ∷ s) lt at before =
-    cond-true _ _ _ (not-false _ (before 0 (omega arith)))
-    ∙ step whole s n b
-    ∙ ended_at whole k (more_digit n b) s (omega arith) at (λ j h. before (suc j) (omega arith))
-
-pub number_open : (b : ℕ) (s : List ℕ) → is_digit_byte b ≡ true → position (λ b. not (is_digit_byte b)) (b ∷ s) ≡ None → number (b ∷ s) ≡ fault EndsEarly []
-number_open b s first e = cond-true _ _ _ first ∙ unended (b ∷ s) (b ∷ s) 0 0 (sym (position_from-zero no_digit (b ∷ s)) ∙ e)
-
-pub number_ended : (bytes before rest : List ℕ) (k n : ℕ) → position (λ b. not (is_digit_byte b)) bytes ≡ Some k → before ≡ take k bytes → rest ≡ drop k bytes → n ≡ fold more_digit 0 before → (b : ℕ) (s : List ℕ) → bytes ≡ b ∷ s → is_digit_byte b ≡ true → number bytes ≡ ended bytes n rest
-number_ended bytes before rest k n e is-before is-rest is-n b s starts first =
-    let p = position-Some no_digit bytes k 0 e in
-    let whole : number bytes ≡ digits bytes 0 bytes = subst (λ l. number l ≡ digits l 0 l) (sym starts) (cond-true _ _ _ first) in
-    whole ∙ ended_at bytes k 0 bytes p.0 p.1 p.2 ∙ sym (λ i. ended bytes ((is-n ∙ ap (fold more_digit 0) is-before) i) (is-rest i))
+pub digits_more : (whole s : List ℕ) (n : ℕ) → 0 < length s → 48 ≤ get_or s 0 0 → get_or s 0 0 ≤ 57 → digits whole (min (n * 10 + (get_or s 0 0 - 48)) 4097) (drop 1 s) ≡ digits whole n s
+digits_more whole [] n lt least most = absurd (omega arith)
+digits_more whole (b ∷ s) n lt least most = saturates whole (n * 10 + (b - 48)) s ∙ sym (cond-true _ _ _ (and_from _ _ (le-leb 48 b least) (le-leb b 57 most)))

@@ -1,6 +1,6 @@
 -- What opening a picture file answers, for every list of bytes: the file is read from the front, part by part, up to the first
 -- fault. Assumes nothing.
-use Rattle.std.specs.Prelude.{◌≡◌, ℕ, ◌+◌, ◌-◌, ◌*◌, ◌≤◌, min, Bool, true, false, cond, ◌&&◌, ◌||◌, List, [], ◌∷◌, length, drop, ◌==◌, nat_le, nat_lt}
+use Rattle.std.specs.Prelude.{◌≡◌, ℕ, ◌+◌, ◌-◌, ◌*◌, ◌≤◌, Bool, true, false, cond, ◌&&◌, ◌||◌, List, [], ◌∷◌, length, drop, ◌==◌, nat_le, nat_lt}
 use Rattle.pictures.specs.Rows.{row_bytes}
 use Rattle.pictures.specs.declared.refusals.PictureRefusal.{PictureRefusal}
 use Rattle.pictures.specs.declared.refusals.PictureRefusal.TheVariants.{WrongMagic, WrongByte, NumberOutside, EndsEarly, BytesAfterRows}
@@ -46,10 +46,6 @@ digits whole n [] = fault EndsEarly []
 digits whole n (b ∷ s) =
     cond (is_digit_byte b) (digits whole (n * 10 + (b - 48)) s)
     (cond (nat_le 1 n && nat_le n 4096) (got n (b ∷ s)) (fault NumberOutside whole))
-
--- a number n and one digit more, as a `u32` holds it: at the most of a `u32` it stays
-abbrev pub more_digit : ℕ → ℕ → ℕ
-more_digit n b = min (min (n * 10) 4294967295 + (b - 48)) 4294967295
 
 -- a number from 1 to 4096
 abbrev pub number : List ℕ → Read ℕ

@@ -1,7 +1,7 @@
 // The readers of the parts of a picture file. Each takes the bytes that are left and answers those after its part, or those from
 // the fault on. It rests on the refusals.
-ghost use Rattle.std.specs.Prelude.{◌≡◌, ℕ, ◌≤◌, true, false, length, ◌==◌, position, IfOk, IfErr, MatchResult, not, fold, List, [], ◌∷◌, ◌⊎◌};
-ghost use Rattle.pictures.specs.Reading.{got, fault, is_white_byte, is_digit_byte, magic, blank, gap, more_digit, number, white};
+ghost use Rattle.std.specs.Prelude.{◌≡◌, ℕ, ◌≤◌, true, false, length, ◌==◌, position, IfOk, IfErr, MatchResult, List, [], ◌∷◌, ◌⊎◌};
+ghost use Rattle.pictures.specs.Reading.{got, fault, is_white_byte, magic, blank, gap, number, white};
 ghost use Rattle.pictures.specs.declared.refusals.PictureRefusal.TheVariants.{WrongByte, EndsEarly};
 
 use crate::refusals::PictureRefusal;
@@ -93,25 +93,6 @@ pub(crate) fn skip_gap(bytes: &[u8]) -> Result<&[u8], Stop<'_>>
     Err(FILE_END)
 }
 
-/// The place of the first byte that is no digit.
-fn digits_end(bytes: &[u8]) -> Option<usize>
-    ensures { result ≡ position (λ b. not (is_digit_byte b)) bytes.now }
-{
-    bytes.iter().position(|b| !b.is_ascii_digit())
-}
-
-/// The number that the digits write. Above the most of a `u32` it stays there, however many digits follow.
-fn value(digits: &[u8]) -> u32
-    ensures { result ≡ fold more_digit 0 digits.now }
-{
-    digits.iter().fold(
-        0u32,
-        |n, b| n
-            .saturating_mul(10)
-            .saturating_add(u32::from(b.saturating_sub(b'0'))),
-    )
-}
-
 /// A number from 1 to 4096, with the bytes after its digits.
 pub(crate) fn read_number(bytes: &[u8]) -> Result<(u32, &[u8]), Stop<'_>>
     ensures reads { MatchResult result (λ x. number bytes.now ≡ got x.0 x.1.now) (λ e. number bytes.now ≡ fault e.refusal e.rest.now) }
@@ -119,9 +100,16 @@ pub(crate) fn read_number(bytes: &[u8]) -> Result<(u32, &[u8]), Stop<'_>>
     ensures most { IfOk result (λ x. x.0 ≤ 4096) }
 {
     skip_one(bytes, |b| b.is_ascii_digit())?;
-    let end = digits_end(bytes).ok_or(FILE_END)?;
-    let (digits, rest) = bytes.split_at(end);
-    let n = value(digits);
+    let mut n = 0;
+    let mut rest = bytes;
+    while let [digit @ b'0'..=b'9', after @ ..] = rest {
+        // past the most, the number only has to stay there
+        n = (n * 10 + u32::from(*digit - b'0')).min(LONGEST_SIDE + 1);
+        rest = after;
+    }
+    if rest.is_empty() {
+        return Err(FILE_END);
+    }
     if !(1..=LONGEST_SIDE).contains(&n) {
         return Err(Stop {
             refusal: PictureRefusal::NumberOutside,
