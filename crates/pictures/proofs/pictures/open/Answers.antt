@@ -1,11 +1,13 @@
-use Rattle.std.proofs.Common.{◌≡◌, ◌≤◌, List, ℕ, length, rules, Result, Ok, Err, MatchResult}
+use Rattle.std.proofs.Common.{◌≡◌, ◌≤◌, List, ℕ, length, rules, Result, Ok, Err, MatchResult, IfOk}
 use Rattle.pictures.specs.Reading.{got, opened, FaultAt}
 use Rattle.pictures.specs.Format.{Only, NoPicture}
 use Rattle.pictures.specs.FirstFault.{FirstFault, Whole}
+use Rattle.pictures.specs.Rows.{EveryRow}
 use Rattle.pictures.specs.declared.pictures.Picture.{Picture}
 use Rattle.pictures.specs.declared.refusals.PictureFault.{PictureFault}
 use Rattle.pictures.proofs.Grammar.{accepted, refused}
 use Rattle.pictures.proofs.FirstFault.{left_within, fault_at, first-fault, whole}
+use Rattle.pictures.proofs.Rows.{every-row}
 use Rattle.pictures.proofs.pictures.open.Goals as goal
 
 -- what the answer says by the grammar, and of shorter and longer files
@@ -20,6 +22,10 @@ first : (file : List ℕ) (r : Result Picture PictureFault) → Answers file r �
 first file (Ok p) e = whole file _ _ _ e
 first file (Err e) at = first-fault file _ _ at
 
+rows_there : (file : List ℕ) (r : Result Picture PictureFault) → Answers file r → IfOk r (λ p. EveryRow p.width p.height p.rows.now)
+rows_there file (Ok p) e = every-row _ _ _ (accepted file _ _ _ e).is.is_rows
+rows_there file (Err e) at = tt
+
 pub map_err-requires : goal.map_err-requires
 map_err-requires c e is =
     let le : length e.rest.now ≤ length c.args.file.now = left_within c.args.file.now e.refusal e.rest.now (rw is at c.read_picture.ensures) in
@@ -33,3 +39,6 @@ returns-clause-grammar c = by_grammar c.args.file.now c.map_err.result (returns-
 
 pub returns-clause-first_fault : goal.returns-clause-first_fault
 returns-clause-first_fault c = first c.args.file.now c.map_err.result (returns-clause-answers c)
+
+pub returns-clause-every_row : goal.returns-clause-every_row
+returns-clause-every_row c = rows_there c.args.file.now c.map_err.result (returns-clause-answers c)
