@@ -28,7 +28,7 @@ impl RowRefusal {
     pub fn number(self) -> u8
         ensures { result ≡ row_number self }
     {
-        self as u8
+        self as u8 // 17 to 23
     }
 }
 
@@ -61,7 +61,7 @@ impl SpoilRefusal {
     pub fn number(self) -> u8
         ensures { result ≡ spoil_number self }
     {
-        self as u8
+        self as u8 // 24 and 25
     }
 }
 
