@@ -4,3 +4,4 @@ pub mod ContrastFacts
 pub mod ReadFacts
 pub mod ReadingFacts
 pub mod WorkedFacts
+pub mod CountFacts

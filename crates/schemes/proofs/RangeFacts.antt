@@ -69,7 +69,7 @@ module _ {F : Type 0} (g : Mut F (ℕ × Unit {0}) Bool) (f : F) (test : ℕ →
 
 -- ---- filter and count
 
-fold_counted : (test : ℕ → Bool) (xs : List ℕ) (a t : ℕ) → ((k : ℕ) → k < length xs → get_or xs k 0 ≡ a + k)
+pub fold_counted : (test : ℕ → Bool) (xs : List ℕ) (a t : ℕ) → ((k : ℕ) → k < length xs → get_or xs k 0 ≡ a + k)
     → fold (λ n x. n + cond (test x) 1 0) t xs ≡ t + count_below (length xs) (λ k. test (a + k))
 fold_counted test [] a t h = sym (add-zero t)
 fold_counted test (x ∷ xs) a t h =
