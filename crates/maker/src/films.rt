@@ -74,6 +74,7 @@ impl Strips {
 }
 
 // Draws an order for each pixel and sets its squares, on strips that are white; `None` if the tape runs short.
+#[inline(always)]
 fn fill_pixels<S: Scheme, T: Tape>(
     scheme: &S,
     tape: &mut T,
@@ -115,7 +116,12 @@ pub fn write_films<S: Scheme, T: Tape>(
     let total = strips.total();
     let m = usize::from(scheme.columns());
     out[..total].fill(0);
-    let filled = fill_pixels(scheme, tape, row, strips, &mut out[..total], &mut work[..m]);
+    // One column apart, so that the loop over its pixels is built for one square each, with no digit.
+    let filled = if m == 1 {
+        fill_pixels(scheme, tape, row, strips, &mut out[..total], &mut work[..1])
+    } else {
+        fill_pixels(scheme, tape, row, strips, &mut out[..total], &mut work[..m])
+    };
     if filled.is_none() {
         out[..total].fill(0);
     }
